@@ -1,0 +1,3 @@
+pub mod Exponents
+pub mod Multiples
+pub mod Names

@@ -1,0 +1,4 @@
+pub mod Alignment
+pub mod Fault
+pub mod InputFlags
+pub mod Numbering
