@@ -1,0 +1,19 @@
+-- What the rows of a section say of it.
+use Rattle.std.specs.Prelude.{ℕ, false, List, []}
+use Rattle.std.specs.Option.{unwrap_or}
+use Rattle.std.specs.List.{list_any}
+use Rattle.std.specs.Ordering.{nat_cmp}
+use Rattle.std.specs.BTreeMap.{get}
+use Rattle.wild_base.specs.InputFlags.{is_write, is_exec}
+use Rattle.wild_plan_spec.specs.declared.row.InputRow.{InputRow}
+use Rattle.wild_plan_spec.specs.Chunks.{largest_alignment}
+use Rattle.wild_plan.specs.declared.traits.Traits.{Traits}
+use Rattle.wild_plan.specs.declared.traits.SectionTraits.{SectionTraits}
+
+-- the traits of a section with these rows
+abbrev pub traits_of : List InputRow → Traits
+traits_of rows = record { alignment = largest_alignment rows; write = list_any (λ row. is_write row.flags) rows; exec = list_any (λ row. is_exec row.flags) rows }
+
+-- the traits that are kept of section s
+abbrev pub traits_at : SectionTraits → ℕ → Traits
+traits_at ts s = unwrap_or (get nat_cmp ts.by_section s) (record { alignment = 0; write = false; exec = false })

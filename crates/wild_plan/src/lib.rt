@@ -1,0 +1,11 @@
+//! Placement plans: where a script puts each input section of a table.
+#![tactic(auto)]
+
+mod plan;
+mod table;
+mod traits;
+
+pub use plan::Plan;
+pub use wild_plan_spec::{
+    Chunk, InputRow, InputRows, InputTable, Names, PlacedInput, PlacedSection, RowNames,
+};

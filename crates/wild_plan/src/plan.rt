@@ -1,0 +1,83 @@
+//! Plans.
+
+ghost use Rattle.std.specs.Prelude.{◌≡◌, ◌<◌, length, slice_get, Some};
+ghost use Rattle.wild_plan_spec.specs.declared.placed.RowNames.{RowNames};
+
+use sqlite_items::Items;
+use std::marker::Model;
+use wild_base::Name;
+use wild_plan_spec::{PlacedInput, PlacedSection, RowNames};
+use wild_script::LinkerScript;
+
+/// A plan: the tree of its script, and what it lists.
+#[derive(Debug, Drop)]
+pub struct Plan {
+    script: LinkerScript,
+    sections: Items<PlacedSection>,
+    placements: Items<PlacedInput>,
+    names: Items<RowNames>,
+}
+
+impl Model for Plan {
+    ghost use Rattle.wild_plan_spec.specs.Layout.{Layout};
+
+    ghost Value = { Layout };
+
+    ghost view = { λ p. record { script = p.script; sections = p.sections; placements = p.placements; names = p.names } };
+}
+
+impl Plan {
+    /// A plan of these lists.
+    pub(crate) fn new(
+        script: LinkerScript,
+        sections: Items<PlacedSection>,
+        placements: Items<PlacedInput>,
+        names: Items<RowNames>,
+    ) -> Plan
+        ensures { result ≡ record { script = script; sections = sections; placements = placements; names = names } }
+    {
+        Plan {
+            script,
+            sections,
+            placements,
+            names,
+        }
+    }
+
+    /// The tree of the script.
+    pub fn script(&self) -> &LinkerScript
+        ensures { result.now ≡ self.now.script }
+    {
+        &self.script
+    }
+
+    /// The sections, in order.
+    pub fn sections(&self) -> &[PlacedSection]
+        ensures { result.now ≡ self.now.sections }
+    {
+        self.sections.as_slice()
+    }
+
+    /// Where each row of the table went, in table order.
+    pub fn placements(&self) -> &[PlacedInput]
+        ensures { result.now ≡ self.now.placements }
+    {
+        self.placements.as_slice()
+    }
+
+    /// The file of a row.
+    pub fn row_file(&self, row: usize) -> &Name
+        requires { row < length self.now.names }
+        ensures { (names : RowNames) → slice_get self.now.names row ≡ Some names → result.now ≡ names.file }
+    {
+        &self.names.as_slice()[row].file
+    }
+
+    /// The section name of a row.
+    pub fn row_section(&self, row: usize) -> &Name
+        requires { row < length self.now.names }
+        ensures { (names : RowNames) → slice_get self.now.names row ≡ Some names → result.now ≡ names.«section» }
+    {
+        &self.names.as_slice()[row].section
+    }
+}

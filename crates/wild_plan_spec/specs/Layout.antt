@@ -1,0 +1,76 @@
+-- What a plan lists.
+use Rattle.std.specs.Prelude.{ℕ, ◌+◌, ◌-◌, true, List, [], ◌∷◌, Option, Some, None, if◌then◌else◌}
+use Rattle.std.specs.Option.{unwrap_or}
+use Rattle.std.specs.List.{list_any}
+use Rattle.wild_base.specs.InputFlags.{is_write, is_exec}
+use Rattle.wild_base.specs.declared.input_flags.InputFlags.{InputFlags}
+use Rattle.wild_script.specs.declared.tree.LinkerScript.{LinkerScript}
+use Rattle.wild_script.specs.declared.tree.Section.{Section}
+use Rattle.wild_plan_spec.specs.declared.chunk.Chunk.{Chunk}
+use Rattle.wild_plan_spec.specs.declared.row.InputRow.{InputRow}
+use Rattle.wild_plan_spec.specs.declared.placed.PlacedSection.{PlacedSection}
+use Rattle.wild_plan_spec.specs.declared.placed.PlacedInput.{PlacedInput}
+use Rattle.wild_plan_spec.specs.declared.placed.PlacedInput.TheVariants.{Discarded, Placed}
+use Rattle.wild_plan_spec.specs.declared.placed.RowNames.{RowNames}
+use Rattle.wild_plan_spec.specs.Rules.{Rule, sections_of, rules_of, chunk_of}
+use Rattle.wild_plan_spec.specs.Chunks.{section_rows, largest_alignment}
+use Rattle.wild_plan_spec.specs.Known.{Entry, Known, Start, Load, End, Address}
+
+-- a plan, as callers see it
+pub record Layout : Type 0 where
+  pub script : LinkerScript
+  -- in order
+  pub sections : List PlacedSection
+  -- in table order
+  pub placements : List PlacedInput
+  pub names : List RowNames
+
+abbrev pub number_at : Known → Entry → ℕ
+number_at known x = unwrap_or (known x) 0
+
+-- in memory, and writable or executable where some row is
+abbrev pub flags_of : List InputRow → InputFlags
+flags_of rows = record { 0 = 1 + (if list_any (λ row. is_write row.flags) rows then 2 else 0) + (if list_any (λ row. is_exec row.flags) rows then 4 else 0) }
+
+-- section s, with these rows
+abbrev pub placed_section : Known → ℕ → Section → List InputRow → PlacedSection
+placed_section known s x rows = record {
+  name = x.output_section_name;
+  start = number_at known (Start s);
+  load = number_at known (Load s);
+  size = number_at known (End s) - number_at known (Start s);
+  alignment = largest_alignment rows;
+  flags = flags_of rows;
+  fill = None;
+  region = None;
+  headers = [];
+  counted = true;
+}
+
+-- the first section of the list has the number s
+abbrev pub placed_sections : Known → List Rule → List InputRow → ℕ → List Section → List PlacedSection
+placed_sections known rules rows s [] = []
+placed_sections known rules rows s (x ∷ xs) = placed_section known s x (section_rows rules s rows) ∷ placed_sections known rules rows (s + 1) xs
+
+-- row n, in its chunk
+abbrev pub placed_input : Known → ℕ → Option Chunk → PlacedInput
+placed_input known n None = Discarded
+placed_input known n (Some chunk) = Placed chunk.«section» chunk.number (number_at known (Address n))
+
+-- the first row of the list has the number n
+abbrev pub placed_inputs : Known → List Rule → ℕ → List InputRow → List PlacedInput
+placed_inputs known rules n [] = []
+placed_inputs known rules n (row ∷ rows) = placed_input known n (chunk_of rules row.«section») ∷ placed_inputs known rules (n + 1) rows
+
+abbrev pub row_names : List InputRow → List RowNames
+row_names [] = []
+row_names (row ∷ rows) = record { file = row.file; «section» = row.«section» } ∷ row_names rows
+
+-- what is listed of a script and its rows where these numbers are known
+abbrev pub layout : LinkerScript → List InputRow → Known → Layout
+layout t rows known = record {
+  script = t;
+  sections = placed_sections known (rules_of t) rows 0 (sections_of t);
+  placements = placed_inputs known (rules_of t) 0 rows;
+  names = row_names rows;
+}

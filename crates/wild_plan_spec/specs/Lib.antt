@@ -1,0 +1,13 @@
+pub mod Names
+pub mod Rules
+pub mod Chunks
+pub mod Order
+pub mod Checks
+pub mod Places
+pub mod Known
+pub mod Line
+pub mod Walk
+pub mod Layout
+pub mod Fit
+pub mod Text
+pub mod FaultText

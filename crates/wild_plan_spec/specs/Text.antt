@@ -1,0 +1,104 @@
+-- How names, addresses and plans are printed.
+use Rattle.std.specs.Prelude.{ℕ, ◌/◌, ◌%◌, ◌+◌, ◌-◌, Bool, true, false, ◌&&◌, not, ◌==◌, nat_le, if◌then◌else◌, List, [], ◌∷◌, ◌++◌, length, replicate, codes, decimal, flat_map, slice_get, Option, Some, None, ◌^◌}
+use Rattle.std.specs.Fmt.{digit_glyph, digits}
+use Rattle.wild_base.specs.InputFlags.{is_alloc, is_write, is_exec, is_nobits, is_tls}
+use Rattle.wild_base.specs.declared.input_flags.InputFlags.{InputFlags}
+use Rattle.wild_plan_spec.specs.declared.placed.PlacedSection.{PlacedSection}
+use Rattle.wild_plan_spec.specs.declared.placed.PlacedInput.{PlacedInput}
+use Rattle.wild_plan_spec.specs.declared.placed.PlacedInput.TheVariants.{Discarded, Placed}
+use Rattle.wild_plan_spec.specs.declared.placed.RowNames.{RowNames}
+use Rattle.wild_plan_spec.specs.Names.{Name}
+use Rattle.wild_plan_spec.specs.Layout.{Layout}
+
+-- ---- names and numbers
+
+-- a byte that stands for itself: a visible one other than backslash and comma
+abbrev pub is_plain : ℕ → Bool
+is_plain b = nat_le 0x21 b && nat_le b 0x7e && not (b == 92) && not (b == 44)
+
+-- itself, or backslash, x and two hexadecimal digits
+abbrev pub printed_byte : ℕ → List ℕ
+printed_byte b = if is_plain b then b ∷ [] else 92 ∷ 120 ∷ digit_glyph false (b / 16) ∷ digit_glyph false (b % 16) ∷ []
+
+abbrev pub is_dash : Name → Bool
+is_dash [] = false
+is_dash (b ∷ []) = b == 45
+is_dash (b ∷ c ∷ bs) = false
+
+-- a dash stands for no bytes, and so the name `-` is written out
+abbrev pub printed_name : Name → List ℕ
+printed_name [] = 45 ∷ []
+printed_name (b ∷ bs) = if is_dash (b ∷ bs) then codes "\\x2d" else flat_map printed_byte (b ∷ bs)
+
+-- the hexadecimal digits, with zeros in front up to this many
+abbrev pub hexadecimal : ℕ → ℕ → List ℕ
+hexadecimal width n = replicate (width - length (digits 16 false n)) 48 ++ digits 16 false n
+
+abbrev pub printed_address : ℕ → List ℕ
+printed_address n = codes "0x" ++ hexadecimal 16 n
+
+-- ---- fields of lines: each with the blank before it
+
+abbrev pub field : List ℕ → List ℕ
+field text = 32 ∷ text
+
+abbrev pub letter : Bool → ℕ → List ℕ
+letter b c = if b then c ∷ [] else []
+
+abbrev pub letters_of : InputFlags → List ℕ
+letters_of flags = letter (is_alloc flags) 65 ++ letter (is_write flags) 87 ++ letter (is_exec flags) 88 ++ letter (is_nobits flags) 66 ++ letter (is_tls flags) 84
+
+abbrev pub or_dash : List ℕ → List ℕ
+or_dash [] = 45 ∷ []
+or_dash (c ∷ cs) = c ∷ cs
+
+-- the letters of the flags, in the order AWXBT
+abbrev pub printed_flags : InputFlags → List ℕ
+printed_flags flags = or_dash (letters_of flags)
+
+abbrev pub printed_fill : Option ℕ → List ℕ
+printed_fill None = 45 ∷ []
+printed_fill (Some n) = hexadecimal 8 n
+
+abbrev pub printed_region : Option Name → List ℕ
+printed_region None = 45 ∷ []
+printed_region (Some x) = printed_name x
+
+-- a comma and a name, for each name
+abbrev pub more_names : List Name → List ℕ
+more_names xs = flat_map (λ x. 44 ∷ printed_name x) xs
+
+-- names joined by commas
+abbrev pub printed_names : List Name → List ℕ
+printed_names [] = 45 ∷ []
+printed_names (x ∷ xs) = printed_name x ++ more_names xs
+
+-- ---- lines
+
+-- `section NAME START LOAD SIZE ALIGN FLAGS FILL REGION HEADERS`
+unfoldable pub section_line : PlacedSection → List ℕ
+section_line s = codes "section" ++ field (printed_name s.name) ++ field (printed_address s.start) ++ field (printed_address s.load) ++ field (printed_address s.size)
+    ++ field (decimal (2 ^ s.alignment)) ++ field (printed_flags s.flags) ++ field (printed_fill s.fill) ++ field (printed_region s.region) ++ field (printed_names s.headers) ++ 10 ∷ []
+
+abbrev pub name_at : List PlacedSection → ℕ → Name
+name_at sections i = named (slice_get sections i)
+  where
+    named : Option PlacedSection → Name
+    named None = []
+    named (Some s) = s.name
+
+-- `input ROW ADDRESS SECTION FILE NAME`, or `discard ROW FILE NAME`
+unfoldable pub input_line : List PlacedSection → ℕ → PlacedInput → RowNames → List ℕ
+input_line sections n Discarded names = codes "discard" ++ field (decimal n) ++ field (printed_name names.file) ++ field (printed_name names.«section») ++ 10 ∷ []
+input_line sections n (Placed s chunk address) names =
+    codes "input" ++ field (decimal n) ++ field (printed_address address) ++ field (printed_name (name_at sections s)) ++ field (printed_name names.file) ++ field (printed_name names.«section») ++ 10 ∷ []
+
+-- the first row of the lists has the number n
+abbrev pub input_lines : List PlacedSection → ℕ → List PlacedInput → List RowNames → List ℕ
+input_lines sections n [] names = []
+input_lines sections n (p ∷ ps) [] = []
+input_lines sections n (p ∷ ps) (x ∷ xs) = input_line sections n p x ++ input_lines sections (n + 1) ps xs
+
+-- the text of a plan: a line for each section, then one for each row
+abbrev pub plan_text : Layout → List ℕ
+plan_text plan = flat_map section_line plan.sections ++ input_lines plan.sections 0 plan.placements plan.names

@@ -1,0 +1,34 @@
+//! Chunks of sections, the rows in them, and the places of a script.
+
+use std::cmp::Reverse;
+use wild_base::Alignment;
+
+/// What one matcher collects: the chunk of this number in the section of this number, both from 0 in text order.
+#[derive(Clone, Copy, Debug, PartialEq, Eq, PartialOrd, Ord)]
+pub struct Chunk {
+    pub section: usize,
+    pub number: usize,
+}
+
+/// A row of a chunk. Rows stand in the order of the fields: by falling alignment, then in table order.
+#[derive(Clone, Copy, Debug, PartialEq, Eq, PartialOrd, Ord)]
+pub struct ChunkRow {
+    pub alignment: Reverse<Alignment>,
+    /// The number of the row in its table.
+    pub row: usize,
+    /// In bytes.
+    pub size: u64,
+    /// The chunk that holds it.
+    pub chunk: Chunk,
+}
+
+/// A place of a script. A section has an Open, the places of its statements, and a Close.
+#[derive(Clone, Copy, Debug, PartialEq, Eq)]
+pub enum Place {
+    /// The section of this number begins.
+    Open(usize),
+    /// The rows of a chunk.
+    Rows(Chunk),
+    /// The section of this number ends.
+    Close(usize),
+}

@@ -1,0 +1,10 @@
+//! What a placement plan is: the types that its definitions speak of, and laws about the definitions in `specs/`.
+#![tactic(auto)]
+
+mod chunk;
+mod placed;
+mod row;
+
+pub use chunk::{Chunk, ChunkRow, Place};
+pub use placed::{Names, PlacedInput, PlacedSection, RowNames};
+pub use row::{InputRow, InputRows, InputTable};

@@ -1,0 +1,45 @@
+//! What a plan lists.
+
+use sqlite_items::Items;
+use wild_base::{Alignment, InputFlags, Name};
+
+/// Names, in order.
+pub type Names = Items<Name>;
+
+/// An output section. Addresses and sizes count bytes.
+#[derive(Debug, Drop)]
+pub struct PlacedSection {
+    pub name: Name,
+    pub start: u64,
+    /// The load address.
+    pub load: u64,
+    pub size: u64,
+    pub alignment: Alignment,
+    pub flags: InputFlags,
+    pub fill: Option<u32>,
+    pub region: Option<Name>,
+    /// The program headers that hold it.
+    pub headers: Names,
+    /// It moves the counter.
+    pub counted: bool,
+}
+
+/// Where an input section went.
+#[derive(Clone, Copy, Debug, PartialEq, Eq)]
+pub enum PlacedInput {
+    Discarded,
+    Placed {
+        /// The index of its section in the plan.
+        section: usize,
+        /// The number of its chunk in the section.
+        chunk: usize,
+        address: u64,
+    },
+}
+
+/// The names of an input section.
+#[derive(Debug, Drop)]
+pub struct RowNames {
+    pub file: Name,
+    pub section: Name,
+}

@@ -1,0 +1,59 @@
+//! Linker scripts as trees.
+
+use sqlite_items::{Boxed, Items};
+use wild_base::Name;
+
+/// A script: its outermost commands in text order.
+#[derive(Debug, Drop)]
+pub struct LinkerScript {
+    pub commands: Items<Command>,
+}
+
+/// An outermost command.
+#[derive(Debug, Drop)]
+pub enum Command {
+    Sections(Sections),
+}
+
+/// What stands in SECTIONS.
+#[derive(Debug, Drop)]
+pub struct Sections {
+    pub commands: Items<SectionCommand>,
+}
+
+/// A statement in SECTIONS.
+#[derive(Debug, Drop)]
+pub enum SectionCommand {
+    Section(Boxed<Section>),
+}
+
+/// An output section.
+#[derive(Debug, Drop)]
+pub struct Section {
+    pub output_section_name: Name,
+    pub commands: Items<ContentsCommand>,
+}
+
+/// A statement in a section.
+#[derive(Debug, Drop)]
+pub enum ContentsCommand {
+    Matcher(Matcher),
+}
+
+/// What collects input sections.
+#[derive(Debug, Drop)]
+pub struct Matcher {
+    /// Written by KEEP.
+    pub must_keep: bool,
+    /// None is every file.
+    pub input_file_pattern: Option<Name>,
+    pub input_section_name_patterns: Items<SectionPattern>,
+}
+
+/// What the name of an input section must be.
+#[derive(Debug, Drop)]
+pub struct SectionPattern {
+    pub name: Name,
+    /// Its sections stand by their names.
+    pub sorted: bool,
+}
