@@ -1,0 +1,6 @@
+pub mod Readers
+pub mod Runs
+pub mod Marks
+pub mod Leaves
+pub mod Closes
+pub mod Families

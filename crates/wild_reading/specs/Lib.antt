@@ -1,0 +1,6 @@
+pub mod Place
+pub mod Bytes
+pub mod Reader
+pub mod Lex
+pub mod Only
+pub mod Family

@@ -1,0 +1,403 @@
+//! A cursor over bytes.
+
+ghost use Rattle.std.specs.Prelude.{◌≡◌, ◌≤◌, ◌<◌, ◌+◌, ◌^◌, length, true, OnOk, IfOk};
+ghost use Rattle.wild_reading.specs.Place.{ahead, is_mark, IsPaid, IsMarked};
+ghost use Rattle.wild_reading.specs.Bytes as spec;
+ghost use Rattle.wild_reading.specs.Lex as lexis;
+ghost use Rattle.wild_reading.specs.Reader as readers;
+ghost use Rattle.wild_reading.specs.Family as family;
+ghost use Rattle.wild_reading.specs.Only.{Answers, IsOnly, Enters, Leaves};
+
+use crate::lex;
+use crate::stop::Stop;
+use std::alloc::Global;
+use std::marker::Model;
+use wild_base::Name;
+
+/// Bytes that are read from a position on, no deeper than a limit. Contracts see the text, the position in its bytes,
+/// and how much depth is left.
+#[derive(Drop)]
+pub struct Cursor<'a> {
+    bytes: &'a [u8],
+    /// Where reading began.
+    start: usize,
+    limit: u32,
+    at: usize,
+    /// How much of the limit is used.
+    depth: u32,
+}
+
+impl<'a> Model for Cursor<'a> {
+    ghost use Rattle.std.specs.Prelude.{◌+◌, ◌-◌, ◌≤◌, length};
+    ghost use Rattle.wild_reading.specs.Place.{Place, mark_count};
+
+    ghost Value = { Place };
+
+    ghost view = { λ c. record { text = record { bytes = c.bytes.now; start = c.start; limit = c.limit }; at = c.at; left = c.limit - c.depth } };
+
+    ghost invariant = { λ c. (c.at ≤ length c.bytes.now) × (c.depth ≤ c.limit) × (mark_count c.bytes.now c.start + c.depth ≤ mark_count c.bytes.now c.at) };
+}
+
+/// The bytes of a token, and whether it stands in quotes.
+#[derive(Drop)]
+pub struct Token<'a> {
+    content: &'a [u8],
+    quoted: bool,
+}
+
+impl<'a> Model for Token<'a> {
+    ghost use Rattle.wild_reading.specs.Lex.{Word};
+
+    ghost Value = { Word };
+
+    ghost view = { λ t. record { content = t.content.now; quoted = t.quoted } };
+}
+
+impl<'a> Token<'a> {
+    pub fn content(&self) -> &'a [u8]
+        ensures { result.now ≡ self.now.content }
+    {
+        self.content
+    }
+
+    pub fn is_quoted(&self) -> bool
+        ensures { result ≡ self.now.quoted }
+    {
+        self.quoted
+    }
+}
+
+impl<'a> Cursor<'a> {
+    /// A cursor at a position, with this limit of depth.
+    pub fn new(bytes: &'a [u8], start: usize, limit: u32) -> Cursor<'a>
+        requires { start ≤ length bytes.now }
+        ensures text { result.text ≡ record { bytes = bytes.now; start = start; limit = limit } }
+        ensures at { result.at ≡ start }
+        ensures left { result.left ≡ limit }
+    {
+        Cursor {
+            bytes,
+            start,
+            limit,
+            at: start,
+            depth: 0,
+        }
+    }
+
+    #[tactic(auto, using(crate::proofs::Readers::here_only))]
+    pub fn position(&self) -> usize
+        ensures read { IsOnly readers.here self.now result self.now }
+        ensures within { result ≤ length self.now.text.bytes }
+    {
+        self.place()
+    }
+
+    fn place(&self) -> usize
+        ensures value { result ≡ self.now.at }
+        ensures within { result ≤ length self.now.text.bytes }
+    {
+        self.at
+    }
+
+    pub fn begins(&self, byte: u8) -> bool
+        ensures { result ≡ spec.begins byte self.now.text.bytes self.now.at }
+    {
+        lex::begins(self.bytes, self.at, byte)
+    }
+
+    pub fn is_end(&self) -> bool
+        ensures { result ≡ spec.is_end self.now.text.bytes self.now.at }
+    {
+        lex::is_end(self.bytes, self.at)
+    }
+
+    /// Takes one of the depth, for which a mark was read.
+    pub fn enter(&mut self) -> Result<(), Stop>
+        requires { IsMarked self.old }
+        ensures { Enters self.old self.new result }
+    {
+        if self.depth == self.limit {
+            return Err(Stop::TooDeep { position: self.at });
+        }
+        self.depth += 1;
+        Ok(())
+    }
+
+    /// Gives one of the depth back.
+    pub fn leave(&mut self)
+        requires { self.old.left < self.old.text.limit }
+        ensures { Leaves self.old self.new }
+    {
+        self.depth -= 1;
+    }
+
+    fn depth_left(&self) -> u32
+        ensures { result ≡ self.now.left }
+    {
+        self.limit - self.depth
+    }
+
+    /// Goes on where what has that depth, and as many marks, may stand one deeper.
+    #[tactic(auto, using(crate::proofs::Families::rooms, crate::proofs::Readers::leaves))]
+    pub fn room(&self, depth: u32) -> Result<(), Stop>
+        requires { IsPaid depth self.now }
+        ensures read { Answers (family.room depth) self.now self.now result }
+        ensures deep { OnOk result (depth < self.now.left) }
+        ensures fits { OnOk result (depth + 1 < 2 ^ 32) }
+    {
+        if depth >= self.depth_left() {
+            return Err(Stop::TooDeep {
+                position: self.place(),
+            });
+        }
+        Ok(())
+    }
+
+    #[tactic(auto, using(crate::proofs::Readers::leaves, crate::proofs::Leaves::moves), unfolding(crate::specs::Lex::white, crate::specs::Lex::after_white))]
+    fn white(&mut self) -> Result<(), Stop>
+        ensures { Answers lexis.white self.old self.new result }
+    {
+        self.at = lex::past_white(self.bytes, self.at);
+        Ok(())
+    }
+
+    #[tactic(auto, using(crate::proofs::Readers::leaves, crate::proofs::Leaves::moves), unfolding(crate::specs::Lex::rest_of_line))]
+    fn rest_of_line(&mut self) -> Result<(), Stop>
+        ensures { Answers lexis.rest_of_line self.old self.new result }
+    {
+        match lex::after_line(self.bytes, self.at) {
+            Some(end) => {
+                self.at = end;
+                Ok(())
+            }
+            None => Err(Stop::Syntax { position: self.at }),
+        }
+    }
+
+    #[tactic(auto, using(crate::proofs::Readers::reading), unfolding(crate::specs::Lex::line))]
+    fn line(&mut self) -> Result<(), Stop>
+        ensures read { Answers lexis.line self.old self.new result }
+        ensures shorter { OnOk result (ahead self.new < ahead self.old) }
+    {
+        self.byte(b'#')?;
+        self.rest_of_line()?;
+        Ok(())
+    }
+
+    #[tactic(auto, using(crate::proofs::Readers::leaves, crate::proofs::Leaves::moves, crate::proofs::Leaves::open_comment), unfolding(crate::specs::Lex::comment, crate::specs::Lex::after_comment))]
+    fn comment(&mut self) -> Result<(), Stop>
+        ensures read { Answers lexis.comment self.old self.new result }
+        ensures shorter { OnOk result (ahead self.new < ahead self.old) }
+    {
+        if !lex::begins_comment(self.bytes, self.at) {
+            return Err(Stop::Syntax { position: self.at });
+        }
+        match lex::after_close(self.bytes, self.at + 1) {
+            Some(end) => {
+                self.at = end;
+                Ok(())
+            }
+            None => Err(Stop::OpenComment { position: self.at }),
+        }
+    }
+
+    #[tactic(auto, using(crate::proofs::Readers::choosing), unfolding(crate::specs::Lex::line_or_comment))]
+    fn line_or_comment(&mut self) -> Result<(), Stop>
+        ensures read { Answers lexis.line_or_comment self.old self.new result }
+        ensures shorter { OnOk result (ahead self.new < ahead self.old) }
+    {
+        if self.begins(b'#') {
+            self.line()
+        } else {
+            self.comment()
+        }
+    }
+
+    #[tactic(auto, using(crate::proofs::Readers::reading), unfolding(crate::specs::Lex::stretch))]
+    fn stretch(&mut self) -> Result<(), Stop>
+        ensures read { Answers lexis.stretch self.old self.new result }
+        ensures shorter { OnOk result (ahead self.new < ahead self.old) }
+    {
+        self.line_or_comment()?;
+        self.white()?;
+        Ok(())
+    }
+
+    fn ends_gap(&self) -> bool
+        ensures { result ≡ lexis.ends_gap self.now.text.bytes self.now.at }
+    {
+        lex::ends_gap(self.bytes, self.at)
+    }
+
+    #[tactic(auto, using(crate::proofs::Readers::repeating), unfolding(crate::specs::Lex::stretches))]
+    fn stretches(&mut self) -> Result<(), Stop>
+        ensures { Answers lexis.stretches self.old self.new result }
+    {
+        'stretches: while !self.ends_gap() {
+            self.stretch()?;
+        }
+        Ok(())
+    }
+
+    /// Passes white, lines and comments.
+    #[tactic(auto, using(crate::proofs::Readers::reading), unfolding(crate::specs::Lex::gap))]
+    pub fn gap(&mut self) -> Result<(), Stop>
+        ensures { Answers lexis.gap self.old self.new result }
+    {
+        self.white()?;
+        self.stretches()?;
+        Ok(())
+    }
+
+    #[tactic(auto, using(crate::proofs::Readers::leaves, crate::proofs::Leaves::moves), unfolding(crate::specs::Lex::byte, crate::specs::Lex::after_byte))]
+    fn byte(&mut self, byte: u8) -> Result<(), Stop>
+        ensures read { Answers (lexis.byte byte) self.old self.new result }
+        ensures shorter { OnOk result (ahead self.new < ahead self.old) }
+        ensures marked { is_mark byte ≡ true → OnOk result (IsMarked self.new) }
+    {
+        if !lex::begins(self.bytes, self.at, byte) {
+            return Err(Stop::Syntax { position: self.at });
+        }
+        self.at += 1;
+        Ok(())
+    }
+
+    #[tactic(auto, using(crate::proofs::Readers::leaves, crate::proofs::Leaves::moves), unfolding(crate::specs::Lex::optional, crate::specs::Lex::after_optional))]
+    fn optional(&mut self, byte: u8) -> Result<(), Stop>
+        ensures { Answers (lexis.optional byte) self.old self.new result }
+    {
+        if lex::begins(self.bytes, self.at, byte) {
+            self.at += 1;
+        }
+        Ok(())
+    }
+
+    #[tactic(auto, using(crate::proofs::Readers::leaves, crate::proofs::Leaves::moves), unfolding(crate::specs::Lex::plain_at))]
+    fn plain_token(&mut self) -> Result<Token<'a>, Stop>
+        ensures read { Answers (readers.Takes lexis.plain_at) self.old self.new result }
+        ensures shorter { OnOk result (ahead self.new < ahead self.old) }
+    {
+        let end = lex::token_end(self.bytes, self.at);
+        if end == self.at {
+            return Err(Stop::Syntax { position: self.at });
+        }
+        let content = &self.bytes[self.at..end];
+        self.at = end;
+        Ok(Token {
+            content,
+            quoted: false,
+        })
+    }
+
+    #[tactic(auto, using(crate::proofs::Readers::leaves, crate::proofs::Leaves::moves), unfolding(crate::specs::Lex::quoted, crate::specs::Lex::quoted_at))]
+    fn quoted_token(&mut self) -> Result<Token<'a>, Stop>
+        ensures read { Answers lexis.quoted self.old self.new result }
+    {
+        let end = lex::quotes_end(self.bytes, self.at);
+        if !lex::begins(self.bytes, end, b'"') {
+            return Err(Stop::Syntax { position: end });
+        }
+        let content = &self.bytes[self.at..end];
+        self.at = end + 1;
+        Ok(Token {
+            content,
+            quoted: true,
+        })
+    }
+
+    #[tactic(auto, using(crate::proofs::Readers::reading), unfolding(crate::specs::Lex::quoted_token))]
+    fn quotes(&mut self) -> Result<Token<'a>, Stop>
+        ensures read { Answers lexis.quoted_token self.old self.new result }
+        ensures shorter { OnOk result (ahead self.new < ahead self.old) }
+    {
+        self.byte(b'"')?;
+        let token = self.quoted_token()?;
+        Ok(token)
+    }
+
+    #[tactic(auto, using(crate::proofs::Readers::choosing), unfolding(crate::specs::Lex::token))]
+    fn token(&mut self) -> Result<Token<'a>, Stop>
+        ensures read { Answers lexis.token self.old self.new result }
+        ensures shorter { OnOk result (ahead self.new < ahead self.old) }
+    {
+        if self.begins(b'"') {
+            self.quotes()
+        } else {
+            self.plain_token()
+        }
+    }
+
+    /// Reads the name of a pattern: as far as a closing bracket or white.
+    #[tactic(auto, using(crate::proofs::Readers::leaves, crate::proofs::Leaves::moves), unfolding(crate::specs::Lex::pattern, crate::specs::Lex::pattern_at))]
+    pub fn pattern(&mut self) -> Result<Token<'a>, Stop>
+        ensures read { Answers lexis.pattern self.old self.new result }
+        ensures shorter { OnOk result (ahead self.new < ahead self.old) }
+    {
+        let end = lex::pattern_end(self.bytes, self.at);
+        if end == self.at {
+            return Err(Stop::Syntax { position: self.at });
+        }
+        let content = &self.bytes[self.at..end];
+        self.at = end;
+        Ok(Token {
+            content,
+            quoted: false,
+        })
+    }
+
+    /// Reads a byte and the gap behind it.
+    #[tactic(auto, using(crate::proofs::Readers::reading, crate::proofs::Marks::paid_on), unfolding(crate::specs::Lex::symbol))]
+    pub fn symbol(&mut self, byte: u8) -> Result<(), Stop>
+        ensures read { Answers (lexis.symbol byte) self.old self.new result }
+        ensures shorter { OnOk result (ahead self.new < ahead self.old) }
+        ensures marked { is_mark byte ≡ true → OnOk result (IsMarked self.new) }
+    {
+        self.byte(byte)?;
+        self.gap()?;
+        Ok(())
+    }
+
+    /// Reads a byte, if it is ahead, and the gap behind it.
+    #[tactic(auto, using(crate::proofs::Readers::reading), unfolding(crate::specs::Lex::optional_symbol))]
+    pub fn optional_symbol(&mut self, byte: u8) -> Result<(), Stop>
+        ensures { Answers (lexis.optional_symbol byte) self.old self.new result }
+    {
+        self.optional(byte)?;
+        self.gap()?;
+        Ok(())
+    }
+
+    /// Reads a token and the gap behind it.
+    #[tactic(auto, using(crate::proofs::Readers::reading), unfolding(crate::specs::Lex::word))]
+    pub fn word(&mut self) -> Result<Token<'a>, Stop>
+        ensures read { Answers lexis.word self.old self.new result }
+        ensures shorter { OnOk result (ahead self.new < ahead self.old) }
+    {
+        let token = self.token()?;
+        self.gap()?;
+        Ok(token)
+    }
+
+    /// Reads a token, as a name, and the gap behind it.
+    #[tactic(auto, using(crate::proofs::Readers::reading), unfolding(crate::specs::Lex::name))]
+    pub fn name(&mut self, alloc: Global) -> Result<Name, Stop>
+        ensures read { Answers lexis.name self.old self.new result }
+        ensures shorter { OnOk result (ahead self.new < ahead self.old) }
+    {
+        let word = self.word()?;
+        let name = Name::new(alloc, word.content())?;
+        Ok(name)
+    }
+
+    /// Goes on where a condition holds.
+    #[tactic(auto, using(crate::proofs::Readers::checking))]
+    pub fn check(&mut self, holds: bool) -> Result<(), Stop>
+        ensures { Answers (readers.check holds) self.old self.new result }
+    {
+        if holds {
+            Ok(())
+        } else {
+            Err(Stop::Syntax { position: self.at })
+        }
+    }
+}

@@ -1,0 +1,46 @@
+//! Why reading stops.
+
+ghost use Rattle.std.specs.Prelude.{◌≡◌};
+ghost use Rattle.wild_reading.specs.declared.stop.Stop.TheVariants as stop;
+
+use std::alloc::{AllocError, AllocFailed};
+use wild_base::NoMemory;
+
+/// Why reading stops. Each position is at most the length of what is read.
+#[derive(Clone, Copy, Debug, PartialEq, Eq)]
+pub enum Stop {
+    /// Nothing is read here, at any depth.
+    Syntax { position: usize },
+    /// The same: a comment that begins here does not end.
+    OpenComment { position: usize },
+    /// The same: a sort word stands here directly in the brackets of another.
+    NestedSort { position: usize },
+    /// Nothing is read within the limit of depth.
+    TooDeep { position: usize },
+    /// Memory ran out.
+    NoMemory,
+}
+
+impl From<AllocError> for Stop {
+    ghost from_gives = { λ _ e. e ≡ stop.NoMemory };
+
+    fn from(_error: AllocError) -> Stop {
+        Stop::NoMemory
+    }
+}
+
+impl<T: Drop> From<AllocFailed<T>> for Stop {
+    ghost from_gives = { λ _ e. e ≡ stop.NoMemory };
+
+    fn from(_error: AllocFailed<T>) -> Stop {
+        Stop::NoMemory
+    }
+}
+
+impl From<NoMemory> for Stop {
+    ghost from_gives = { λ _ e. e ≡ stop.NoMemory };
+
+    fn from(_error: NoMemory) -> Stop {
+        Stop::NoMemory
+    }
+}
