@@ -40,7 +40,7 @@ pub record Ahead (test : Bytes → ℕ → Bool) (b : Bytes) (limit i : ℕ) (y 
   pub end : j ≡ i
 
 -- no bytes, where the condition holds
-abbrev pub check : Bool → Reader (Unit {0})
+unfoldable pub check : Bool → Reader (Unit {0})
 check c = Ahead (λ _ _. c)
 
 -- nothing

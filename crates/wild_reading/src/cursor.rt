@@ -390,9 +390,9 @@ impl<'a> Cursor<'a> {
     }
 
     /// Goes on where a condition holds.
-    #[tactic(auto, using(crate::proofs::Readers::checking))]
-    pub fn check(&mut self, holds: bool) -> Result<(), Stop>
-        ensures { Answers (readers.check holds) self.old self.new result }
+    #[tactic(auto, using(crate::proofs::Readers::checking), unfolding(crate::specs::Reader::check))]
+    pub fn check(&self, holds: bool) -> Result<(), Stop>
+        ensures { Answers (readers.check holds) self.now self.now result }
     {
         if holds {
             Ok(())

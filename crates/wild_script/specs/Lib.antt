@@ -1,1 +1,4 @@
+pub mod Fault
+pub mod Pattern
+pub mod Section
 pub mod Tree

@@ -1,15 +1,59 @@
--- The trees of bytes.
-use Rattle.std.specs.Prelude.{◌≡◌, ℕ, ◌≤◌, List, [], length}
+-- The trees that bytes are read as.
+use Rattle.std.specs.Prelude.{◌≡◌, ℕ, ◌≤◌, Bool, List, length, codes}
+use Rattle.std.specs.Str.{bytes_eq}
 use Rattle.wild_base.specs.declared.fault.Fault.{Fault}
 use Rattle.wild_base.specs.declared.fault.Fault.TheVariants.{Syntax, TooDeep, BadRow, DuplicateSection, Overflow, AlignOverflow, NoMemory, Unsupported}
+use Rattle.wild_reading.specs.Place as place
+use Rattle.wild_reading.specs.Bytes.{begins, is_end}
+use Rattle.wild_reading.specs.Reader.{Reader, ◌>>=◌, ◌>>◌, Give, check, Until}
+use Rattle.wild_reading.specs.Lex.{gap, word, symbol}
+use Rattle.wild_script.specs.Section.{«section»}
 use Rattle.wild_script.specs.declared.tree.LinkerScript.{LinkerScript}
+use Rattle.wild_script.specs.declared.tree.Command.{Command}
+use Rattle.wild_script.specs.declared.tree.Command.TheVariants.{Sections}
+use Rattle.wild_script.specs.declared.tree.Sections as kept
+use Rattle.wild_script.specs.declared.tree.SectionCommand.{SectionCommand}
 
 abbrev pub Bytes : Type 0
-Bytes = List ℕ
+Bytes = place.Bytes
 
--- provisional
+-- ---- scripts
+
+unfoldable pub section_statements : Reader (List SectionCommand)
+section_statements = Until (begins 125) «section»
+
+-- sections in braces
+unfoldable pub sections : Reader kept.Sections
+sections = do
+  symbol 123
+  statements ← section_statements
+  symbol 125
+  Give (record { commands = statements })
+
+unfoldable pub is_sections : Bytes → Bool
+is_sections content = bytes_eq content (codes "SECTIONS")
+
+unfoldable pub command : Reader Command
+command = do
+  first ← word
+  check (is_sections first.content)
+  statements ← sections
+  Give (Sections statements)
+
+unfoldable pub commands : Reader (List Command)
+commands = Until is_end command
+
+unfoldable pub script : Reader LinkerScript
+script = do
+  gap
+  all ← commands
+  Give (record { commands = all })
+
+-- ---- trees
+
+-- the whole of the bytes is read as this tree, within that depth
 unfoldable pub tree_within : ℕ → Bytes → LinkerScript → Type 0
-tree_within depth b t = b ≡ []
+tree_within depth b t = script b depth 0 t (length b)
 
 -- the whole of the bytes is read as this tree, of depth at most 256
 abbrev pub tree : Bytes → LinkerScript → Type 0
@@ -20,13 +64,26 @@ pub record IsTree (b : Bytes) (t : LinkerScript) : Type 0 where
   pub is : tree b t
   pub only : (depth : ℕ) (u : LinkerScript) → tree_within depth b u → u ≡ t
 
+-- ---- no tree
+
 abbrev pub HasNone : ℕ → Bytes → Type 0
 HasNone depth b = (t : LinkerScript) → tree_within depth b t → ⊥
 
--- the bytes have no tree, which this fault says
+-- the bytes have no tree of any depth
+pub record IsSyntaxFault (b : Bytes) (position : ℕ) : Type 0 where
+  pub none : (depth : ℕ) → HasNone depth b
+  pub within : position ≤ length b
+
+-- they have none of depth at most 256, and as many bytes that deepen a script stand before the position
+pub record IsTooDeep (b : Bytes) (position : ℕ) : Type 0 where
+  pub none : HasNone 256 b
+  pub marks : 256 ≤ place.mark_count b position
+  pub within : position ≤ length b
+
+-- this fault says that the bytes have no tree
 abbrev pub IsParseFault : Bytes → Fault → Type 0
-IsParseFault b (Syntax position) = ((depth : ℕ) → HasNone depth b) × (position ≤ length b)
-IsParseFault b (TooDeep position) = HasNone 256 b × (position ≤ length b)
+IsParseFault b (Syntax position) = IsSyntaxFault b position
+IsParseFault b (TooDeep position) = IsTooDeep b position
 IsParseFault b (BadRow row) = ⊥
 IsParseFault b (DuplicateSection name) = ⊥
 IsParseFault b (Overflow left right) = ⊥

@@ -2,6 +2,9 @@
 #![tactic(auto)]
 
 mod parse;
+mod pattern;
+mod script;
+mod section;
 mod tree;
 
 pub use tree::{

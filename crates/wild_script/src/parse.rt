@@ -2,18 +2,40 @@
 
 ghost use Rattle.std.specs.Prelude.{◌≡◌, ◌⊎◌, IfOk, IfErr};
 ghost use Rattle.wild_base.specs.declared.fault.Fault.TheVariants.{NoMemory};
+ghost use Rattle.wild_script.specs.Fault.{fault_of};
 ghost use Rattle.wild_script.specs.Tree.{IsTree, IsParseFault};
 
+use crate::script::script;
 use crate::tree::LinkerScript;
 use std::alloc::Global;
 use wild_base::Fault;
+use wild_reading::{Cursor, Stop};
+
+/// How deep a script may be.
+const MAX_DEPTH: u32 = 256;
+
+fn fault_of(stop: Stop) -> Fault
+    ensures { result ≡ fault_of stop }
+{
+    match stop {
+        Stop::Syntax { position }
+        | Stop::OpenComment { position }
+        | Stop::NestedSort { position } => Fault::Syntax { position },
+        Stop::TooDeep { position } => Fault::TooDeep { position },
+        Stop::NoMemory => Fault::NoMemory,
+    }
+}
 
 impl LinkerScript {
     /// Reads the whole of the bytes as a script.
-    pub fn parse(_alloc: Global, _bytes: &[u8]) -> Result<LinkerScript, Fault>
-        ensures found { IfOk result (IsTree _bytes.now) }
-        ensures refused { IfErr result (λ f. (f ≡ NoMemory) ⊎ IsParseFault _bytes.now f) }
+    pub fn parse(alloc: Global, bytes: &[u8]) -> Result<LinkerScript, Fault>
+        ensures found { IfOk result (IsTree bytes.now) }
+        ensures refused { IfErr result (λ f. (f ≡ NoMemory) ⊎ IsParseFault bytes.now f) }
     {
-        Err(Fault::NoMemory)
+        let mut cursor = Cursor::new(bytes, 0, MAX_DEPTH);
+        match script(&mut cursor, alloc) {
+            Ok(script) => Ok(script),
+            Err(stop) => Err(fault_of(stop)),
+        }
     }
 }

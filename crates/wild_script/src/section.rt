@@ -1,0 +1,111 @@
+//! Reads output sections.
+
+ghost use Rattle.std.specs.Prelude.{◌≡◌, ◌<◌, OnOk};
+ghost use Rattle.wild_reading.specs.Only.{Answers};
+ghost use Rattle.wild_reading.specs.Place.{ahead};
+ghost use Rattle.wild_script.specs.Section as spec;
+
+use crate::pattern::pattern_list;
+use crate::tree::{ContentsCommand, Matcher, Section, SectionCommand};
+use sqlite_items::{Boxed, Items};
+use std::alloc::Global;
+use wild_base::Name;
+use wild_reading::{Cursor, Grammar, Stop, read_until};
+
+#[tactic(auto, unfolding(crate::specs::Section::is_every_file))]
+fn is_every_file(content: &[u8]) -> bool
+    ensures { result ≡ spec.is_every_file content.now }
+{
+    content == b"*".as_slice()
+}
+
+#[tactic(auto, using(wild_reading::proofs::Readers::reading), unfolding(crate::specs::Section::contents_statement))]
+fn contents_statement(cursor: &mut Cursor<'_>, alloc: Global) -> Result<ContentsCommand, Stop>
+    ensures read { Answers spec.contents_statement cursor.old cursor.new result }
+    ensures shorter { OnOk result (ahead cursor.new < ahead cursor.old) }
+{
+    let file = cursor.word()?;
+    cursor.check(is_every_file(file.content()))?;
+    let input_section_name_patterns = pattern_list(cursor, alloc)?;
+    cursor.optional_symbol(b';')?;
+    Ok(ContentsCommand::Matcher(Matcher {
+        must_keep: false,
+        input_file_pattern: None,
+        input_section_name_patterns,
+    }))
+}
+
+impl Grammar for ContentsCommand {
+    ghost reads = { spec.contents_statement };
+
+    fn read(cursor: &mut Cursor<'_>, alloc: Global) -> Result<ContentsCommand, Stop> {
+        contents_statement(cursor, alloc)
+    }
+}
+
+#[tactic(auto, unfolding(crate::specs::Section::contents))]
+fn contents(cursor: &mut Cursor<'_>, alloc: Global) -> Result<Items<ContentsCommand>, Stop>
+    ensures { Answers spec.contents cursor.old cursor.new result }
+{
+    read_until(cursor, alloc, b'}')
+}
+
+#[tactic(auto, unfolding(crate::specs::Section::is_section_name))]
+fn is_section_name(name: &[u8]) -> bool
+    ensures { result ≡ spec.is_section_name name.now }
+{
+    !(name == b"".as_slice()
+        || name == b"ASSERT".as_slice()
+        || name == b"PROVIDE".as_slice()
+        || name == b"PROVIDE_HIDDEN".as_slice()
+        || name == b"/DISCARD/".as_slice())
+}
+
+#[tactic(auto, unfolding(crate::specs::Section::has_no_tail))]
+fn has_no_tail(cursor: &Cursor<'_>) -> bool
+    ensures { result ≡ spec.has_no_tail cursor.now.text.bytes cursor.now.at }
+{
+    !(cursor.begins(b':') || cursor.begins(b'>') || cursor.begins(b'='))
+}
+
+#[tactic(auto, using(wild_reading::proofs::Readers::checking), unfolding(crate::specs::Section::no_tail))]
+fn no_tail(cursor: &Cursor<'_>) -> Result<(), Stop>
+    ensures { Answers spec.no_tail cursor.now cursor.now result }
+{
+    if has_no_tail(cursor) {
+        Ok(())
+    } else {
+        Err(Stop::Syntax {
+            position: cursor.position(),
+        })
+    }
+}
+
+#[tactic(auto, using(wild_reading::proofs::Readers::reading), unfolding(crate::specs::Section::section))]
+fn section(cursor: &mut Cursor<'_>, alloc: Global) -> Result<SectionCommand, Stop>
+    ensures read { Answers spec.«section» cursor.old cursor.new result }
+    ensures shorter { OnOk result (ahead cursor.new < ahead cursor.old) }
+{
+    let name = cursor.word()?;
+    cursor.check(is_section_name(name.content()))?;
+    cursor.symbol(b':')?;
+    cursor.symbol(b'{')?;
+    let commands = contents(cursor, alloc)?;
+    cursor.symbol(b'}')?;
+    no_tail(cursor)?;
+    cursor.optional_symbol(b',')?;
+    let output_section_name = Name::new(alloc, name.content())?;
+    let section = Section {
+        output_section_name,
+        commands,
+    };
+    Ok(SectionCommand::Section(Boxed::new(alloc, section)?))
+}
+
+impl Grammar for SectionCommand {
+    ghost reads = { spec.«section» };
+
+    fn read(cursor: &mut Cursor<'_>, alloc: Global) -> Result<SectionCommand, Stop> {
+        section(cursor, alloc)
+    }
+}
