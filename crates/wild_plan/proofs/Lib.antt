@@ -1,2 +1,4 @@
 pub mod Entries
+pub mod Ordered
+pub mod RowOrder
 pub mod Standing
