@@ -3,7 +3,7 @@ use Rattle.std.proofs.Common.{◌≡◌, ℕ, Option, Some, None, refl}
 use Rattle.std.proofs.Math.Path.{fun_ext}
 use Rattle.std.specs.Prelude.{◌==◌, if◌then◌else◌}
 use Rattle.std.specs.BTreeMap.{BTreeMap}
-use Rattle.wild_plan_spec.specs.Known.{Entry, Start, Load, End, Address, nothing, same_entry, or_else, with_entry}
+use Rattle.wild_plan_spec.specs.Known.{Entry, Start, Load, End, Address, same_entry, or_else, with_entry}
 use Rattle.wild_plan.specs.declared.table.Table.{Table}
 use Rattle.wild_plan.specs.Table.{known_at, known_of}
 
@@ -38,16 +38,6 @@ address_entry t new r n h (Start i) = none_more _
 address_entry t new r n h (Load i) = none_more _
 address_entry t new r n h (End i) = none_more _
 address_entry t new r n h (Address i) = h i
-
--- a table whose maps know nothing
-pub none_known : (t : Table) → ((i : ℕ) → known_at t.starts i ≡ None) → ((i : ℕ) → known_at t.loads i ≡ None) → ((i : ℕ) → known_at t.ends i ≡ None) → ((i : ℕ) → known_at t.addresses i ≡ None) → known_of t ≡ nothing
-none_known t starts loads ends addresses = fun_ext each
-  where
-    each : (x : Entry) → known_of t x ≡ nothing x
-    each (Start i) = starts i
-    each (Load i) = loads i
-    each (End i) = ends i
-    each (Address i) = addresses i
 
 pub with_start : (t : Table) (new : BTreeMap ℕ ℕ) (s n : ℕ) → Learned t.starts new s n → known_of (record t { starts = new }) ≡ with_entry (Start s) n (known_of t)
 unfolding with_entry

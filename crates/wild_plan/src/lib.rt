@@ -2,6 +2,7 @@
 #![tactic(auto)]
 
 mod chunks;
+mod listing;
 mod plan;
 mod table;
 mod traits;

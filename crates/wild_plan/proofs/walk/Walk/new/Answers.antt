@@ -1,6 +1,5 @@
 use Rattle.std.proofs.Common.{ap}
 use Rattle.wild_plan_spec.specs.Known.{Known}
-use Rattle.wild_plan_spec.specs.Line.{State}
 use Rattle.wild_plan.proofs.walk.Walk.new.Goals as goal
 
 pub returns : goal.returns
