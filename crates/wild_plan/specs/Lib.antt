@@ -2,6 +2,9 @@ pub mod Pointed
 pub mod Traits
 pub mod With
 pub mod Table
+pub mod Chunks
+pub mod Moves
+pub mod Listed
 pub use Rattle.wild_plan_spec.specs.Fit
 pub use Rattle.wild_plan_spec.specs.Layout
 pub use Rattle.wild_plan_spec.specs.Text

@@ -1,9 +1,12 @@
 //! Placement plans: where a script puts each input section of a table.
 #![tactic(auto)]
 
+mod chunks;
+mod listing;
 mod plan;
 mod table;
 mod traits;
+mod walk;
 
 pub use plan::Plan;
 pub use wild_plan_spec::{

@@ -1,5 +1,12 @@
 //! What is known of a layout.
 
+ghost use Rattle.std.specs.Prelude.{◌≡◌, ◌==◌, ℕ, Some, None, OnOk, if◌then◌else◌};
+ghost use Rattle.std.specs.Option.{unwrap_or};
+ghost use Rattle.wild_plan_spec.specs.Known.{Start, Load, End, Address, nothing, or_else, with_entry};
+ghost use Rattle.wild_plan_spec.specs.Layout.{number_at};
+ghost use Rattle.wild_plan.specs.Table.{known_at, known_of};
+
+use std::alloc::{AllocError, Global};
 use std::collections::BTreeMap;
 
 /// Numbers by the index of a section or a row.
@@ -12,4 +19,91 @@ pub struct Table {
     pub loads: Numbers,
     pub ends: Numbers,
     pub addresses: Numbers,
+}
+
+/// The number at an index, or 0 where none is known.
+fn number(known: &Numbers, index: usize) -> u64
+    ensures { result ≡ unwrap_or (known_at known.now index) 0 }
+{
+    known.get(&index).copied().unwrap_or(0)
+}
+
+/// Keeps a number, unless one is known there.
+fn learn(known: &mut Numbers, index: usize, number: u64) -> Result<(), AllocError>
+    ensures { OnOk result ((i : ℕ) → known_at known.new i ≡ or_else (known_at known.old i) (if index == i then Some number else None)) }
+{
+    if !known.contains_key(&index) {
+        known.insert(index, number)?;
+    }
+    Ok(())
+}
+
+impl Table {
+    /// A table that knows nothing.
+    pub fn new(alloc: Global) -> Table
+        ensures { known_of result ≡ nothing }
+    {
+        Table {
+            starts: BTreeMap::new(alloc),
+            loads: BTreeMap::new(alloc),
+            ends: BTreeMap::new(alloc),
+            addresses: BTreeMap::new(alloc),
+        }
+    }
+
+    /// Keeps the start of a section, unless it is known.
+    pub fn learn_start(&mut self, section: usize, number: u64) -> Result<(), AllocError>
+        ensures { OnOk result (known_of self.new ≡ with_entry (Start section) number (known_of self.old)) }
+    {
+        learn(&mut self.starts, section, number)
+    }
+
+    /// Keeps the load address of a section, unless it is known.
+    pub fn learn_load(&mut self, section: usize, number: u64) -> Result<(), AllocError>
+        ensures { OnOk result (known_of self.new ≡ with_entry (Load section) number (known_of self.old)) }
+    {
+        learn(&mut self.loads, section, number)
+    }
+
+    /// Keeps the end of a section, unless it is known.
+    pub fn learn_end(&mut self, section: usize, number: u64) -> Result<(), AllocError>
+        ensures { OnOk result (known_of self.new ≡ with_entry (End section) number (known_of self.old)) }
+    {
+        learn(&mut self.ends, section, number)
+    }
+
+    /// Keeps the address of a row, unless it is known.
+    pub fn learn_address(&mut self, row: usize, number: u64) -> Result<(), AllocError>
+        ensures { OnOk result (known_of self.new ≡ with_entry (Address row) number (known_of self.old)) }
+    {
+        learn(&mut self.addresses, row, number)
+    }
+
+    /// Where a section starts, or 0 where that is not known.
+    pub fn start(&self, section: usize) -> u64
+        ensures { result ≡ number_at (known_of self.now) (Start section) }
+    {
+        number(&self.starts, section)
+    }
+
+    /// The load address of a section, or 0 where it is not known.
+    pub fn load(&self, section: usize) -> u64
+        ensures { result ≡ number_at (known_of self.now) (Load section) }
+    {
+        number(&self.loads, section)
+    }
+
+    /// Where a section ends, or 0 where that is not known.
+    pub fn end(&self, section: usize) -> u64
+        ensures { result ≡ number_at (known_of self.now) (End section) }
+    {
+        number(&self.ends, section)
+    }
+
+    /// The address of a row, or 0 where it is not known.
+    pub fn address(&self, row: usize) -> u64
+        ensures { result ≡ number_at (known_of self.now) (Address row) }
+    {
+        number(&self.addresses, row)
+    }
 }

@@ -1,0 +1,113 @@
+//! What a plan lists, once all places are laid out.
+
+ghost use Rattle.std.specs.Prelude.{◌≡◌, IfOk};
+ghost use Rattle.wild_plan_spec.specs.Layout.{row_names};
+ghost use Rattle.wild_plan.specs.Listed.{flags_by, section_by, sections_by};
+ghost use Rattle.wild_plan.specs.Pointed.{pointed};
+ghost use Rattle.wild_plan.specs.Table.{known_of};
+ghost use Rattle.wild_plan.specs.Traits.{traits_at};
+ghost use Rattle.wild_plan.specs.With.{placed_with};
+
+use crate::table::Table;
+use crate::traits::{SectionTraits, Traits};
+use bitflags::Flags;
+use sqlite_items::Items;
+use std::alloc::Global;
+use wild_base::{InputFlags, NoMemory};
+use wild_plan_spec::{Chunk, InputRow, PlacedInput, PlacedSection, RowNames};
+use wild_script::Section;
+
+/// In memory, and writable or executable where a row is.
+fn flags_by(traits: Traits) -> InputFlags
+    ensures { result ≡ flags_by traits }
+{
+    let mut flags = InputFlags::ALLOC;
+    if traits.write {
+        flags.insert(InputFlags::WRITE);
+    }
+    if traits.exec {
+        flags.insert(InputFlags::EXEC);
+    }
+    flags
+}
+
+/// The section of this number, with these traits.
+fn placed_section(
+    alloc: Global,
+    table: &Table,
+    traits: Traits,
+    number: usize,
+    section: &Section,
+) -> Result<PlacedSection, NoMemory>
+    ensures { IfOk result (λ placed. placed ≡ section_by (known_of table.now) number section.now traits) }
+{
+    let name = section.output_section_name.copy(alloc)?;
+    let start = table.start(number);
+    Ok(PlacedSection {
+        name,
+        start,
+        load: table.load(number),
+        size: table.end(number).saturating_sub(start),
+        alignment: traits.alignment,
+        flags: flags_by(traits),
+        fill: None,
+        region: None,
+        headers: Items::new(alloc),
+        counted: true,
+    })
+}
+
+/// The sections, numbered in their order.
+pub fn placed_sections(
+    alloc: Global,
+    table: &Table,
+    traits: &SectionTraits,
+    sections: &[&Section],
+) -> Result<Items<PlacedSection>, NoMemory>
+    ensures { IfOk result (λ placed. placed ≡ sections_by (known_of table.now) (traits_at traits.now) 0 (pointed sections.now)) }
+{
+    let mut placed = Items::new(alloc);
+    for (i, section) in sections.iter().enumerate() {
+        placed.push(placed_section(alloc, table, traits.get(i), i, section)?)?;
+    }
+    Ok(placed)
+}
+
+/// Where each row went, in table order, by its chunk.
+pub fn placed_inputs(
+    alloc: Global,
+    table: &Table,
+    chunks: &[Chunk],
+) -> Result<Items<PlacedInput>, NoMemory>
+    ensures { IfOk result (λ placed. placed ≡ placed_with (known_of table.now) 0 chunks.now) }
+{
+    let mut placed = Items::new(alloc);
+    for (i, chunk) in chunks.iter().enumerate() {
+        placed.push(PlacedInput::Placed {
+            section: chunk.section,
+            chunk: chunk.number,
+            address: table.address(i),
+        })?;
+    }
+    Ok(placed)
+}
+
+fn names_of(alloc: Global, row: &InputRow) -> Result<RowNames, NoMemory>
+    ensures { IfOk result (λ names. names ≡ record { file = row.now.file; «section» = row.now.«section» }) }
+{
+    Ok(RowNames {
+        file: row.file.copy(alloc)?,
+        section: row.section.copy(alloc)?,
+    })
+}
+
+/// The names of each row, in table order.
+pub fn row_names(alloc: Global, rows: &[InputRow]) -> Result<Items<RowNames>, NoMemory>
+    ensures { IfOk result (λ names. names ≡ row_names rows.now) }
+{
+    let mut names = Items::new(alloc);
+    for row in rows {
+        names.push(names_of(alloc, row)?)?;
+    }
+    Ok(names)
+}
