@@ -11,3 +11,6 @@ pub use tree::{
     Command, ContentsCommand, LinkerScript, Matcher, Section, SectionCommand, SectionPattern,
     Sections,
 };
+
+#[cfg(test)]
+mod tests;
