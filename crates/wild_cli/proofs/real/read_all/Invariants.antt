@@ -1,0 +1,9 @@
+use Rattle.std.proofs.Common.{◌+◌, ◌-◌, ◌^◌, ◌≤◌, vec_len}
+use Rattle.wild_cli.proofs.real.read_all.Given as goal
+
+-- one byte more than a file may have, at most
+abbrev pub invariant-loop-buffer : goal.invariant-loop-buffer
+invariant-loop-buffer g l = vec_len l.bytes ≤ 2 ^ 24 + 1
+
+abbrev pub decreases-loop-buffer : goal.decreases-loop-buffer
+decreases-loop-buffer g l = 2 ^ 24 + 1 - vec_len l.bytes

@@ -1,0 +1,18 @@
+//! The command line: words, numbers and tables as they are written, and where files come from and texts go.
+#![tactic(auto)]
+
+mod device;
+mod flags;
+mod number;
+mod real;
+mod sure;
+mod table;
+mod words;
+
+pub use device::{Files, LoadFault, Sink, SinkFault};
+pub use flags::read_flags;
+pub use number::read_number;
+pub use real::{DirFiles, StreamSink};
+pub use sure::{ShelfFile, SureShelf, SureTray};
+pub use table::{TableFault, read_table};
+pub use words::{Request, WordsFault, read_words};

@@ -1,0 +1,132 @@
+//! Real files and streams. Nothing is told of what they hold.
+
+ghost use Rattle.std.specs.Prelude.{◌≡◌, ◌≤◌, ◌^◌, vec_len, None, IfOk};
+ghost use Rattle.wild_cli.specs.Device.{Rose};
+
+use crate::{Files, LoadFault, Sink, SinkFault};
+use std::alloc::Global;
+use std::io::{Read, Write};
+use std::{fs, str};
+use wild_base::Name;
+
+const MAX_LENGTH: usize = 1 << 24;
+
+/// The files of the system, by their paths. A name that isn't UTF-8 fails.
+#[derive(Debug, Drop)]
+pub struct DirFiles<R> {
+    runtime: R,
+    faults: u64,
+    failed: Option<Name>,
+}
+
+impl<R> DirFiles<R> {
+    /// No load has failed yet.
+    pub fn new(runtime: R) -> DirFiles<R>
+        ensures { result ≡ record { runtime = runtime; faults = 0; failed = None } }
+    {
+        DirFiles {
+            runtime,
+            faults: 0,
+            failed: None,
+        }
+    }
+}
+
+impl<R: std::rt::Files> Files for DirFiles<R> {
+    ghost held = { λ files name. None };
+
+    ghost faults = { λ files. files.faults };
+
+    ghost failed = { λ files. files.failed };
+
+    fn load(&mut self, alloc: Global, name: &Name) -> Result<Vec<u8>, LoadFault> {
+        let copy = name.copy(alloc)?;
+        let loaded = load_path(alloc, &self.runtime, name);
+        if let Err(LoadFault::Failed) = loaded {
+            self.faults = next_count(self.faults);
+            self.failed = Some(copy);
+        }
+        loaded
+    }
+}
+
+// One fault more.
+fn next_count(faults: u64) -> u64
+    ensures { Rose faults result }
+{
+    faults.saturating_add(1)
+}
+
+fn load_path<R: std::rt::Files>(
+    alloc: Global,
+    runtime: &R,
+    name: &Name,
+) -> Result<Vec<u8>, LoadFault> {
+    let Ok(path) = str::from_utf8(name.bytes()) else {
+        return Err(LoadFault::Failed);
+    };
+    let Ok(mut file) = fs::open(runtime, path) else {
+        return Err(LoadFault::Failed);
+    };
+    read_all(alloc, &mut file)
+}
+
+// All that a reader gives, unless that is more than a file may have. It takes one byte more at most.
+fn read_all<R: Read>(alloc: Global, reader: &mut R) -> Result<Vec<u8>, LoadFault>
+    ensures { IfOk result (λ bytes. vec_len bytes ≤ 2 ^ 24) }
+{
+    let mut bytes = Vec::new(alloc);
+    let mut buffer = [0u8; 4096];
+    while bytes.len() <= MAX_LENGTH {
+        let wanted = buffer.len().min(MAX_LENGTH + 1 - bytes.len());
+        match reader.read(&mut buffer[..wanted]) {
+            Ok(0) => return Ok(bytes),
+            Ok(count) => bytes.extend_from_slice(&buffer[..count])?,
+            Err(_) => return Err(LoadFault::Failed),
+        }
+    }
+    Err(LoadFault::TooLong)
+}
+
+/// A stream of the system.
+#[derive(Debug, Drop)]
+pub struct StreamSink<W> {
+    stream: W,
+    faults: u64,
+}
+
+impl<W> StreamSink<W> {
+    /// No put has failed yet.
+    pub fn new(stream: W) -> StreamSink<W>
+        ensures { result ≡ record { stream = stream; faults = 0 } }
+    {
+        StreamSink { stream, faults: 0 }
+    }
+}
+
+impl<W: Write> Sink for StreamSink<W> {
+    ghost got = { λ sink. None };
+
+    ghost faults = { λ sink. sink.faults };
+
+    fn put(&mut self, piece: &[u8]) -> Result<(), SinkFault> {
+        if write_piece(&mut self.stream, piece) {
+            Ok(())
+        } else {
+            self.faults = next_count(self.faults);
+            Err(SinkFault::Failed)
+        }
+    }
+}
+
+// Whether the stream took the whole piece.
+fn write_piece<W: Write>(stream: &mut W, piece: &[u8]) -> bool {
+    let mut rest = piece;
+    while !rest.is_empty() {
+        match stream.write(rest) {
+            Ok(0) | Err(_) => return false,
+            Ok(count) => rest = &rest[count..],
+        }
+    }
+    true
+}

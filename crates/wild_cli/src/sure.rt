@@ -1,0 +1,128 @@
+//! Files and a sink in memory that never fail.
+
+ghost use Rattle.std.specs.Prelude.{◌≡◌, ◌≢◌, [], Err, None, Some};
+ghost use Rattle.std.specs.Str.{bytes_eq};
+ghost use Rattle.wild_cli.specs.Device.{Loads};
+ghost use Rattle.wild_cli.specs.Shelf.{content_of};
+ghost use Rattle.wild_cli.specs.declared.device.LoadFault.TheVariants as load;
+
+use crate::{Files, LoadFault, Sink, SinkFault};
+use std::alloc::Global;
+use std::marker::Model;
+use wild_base::Name;
+
+const MAX_LENGTH: usize = 1 << 24;
+
+/// A file in memory.
+#[derive(Debug, Drop)]
+pub struct ShelfFile {
+    pub name: Name,
+    pub bytes: Name,
+}
+
+/// Files in memory, none of which fails to load. Contracts see the list of its files.
+#[derive(Debug, Drop)]
+pub struct SureShelf {
+    files: Vec<ShelfFile>,
+}
+
+impl Model for SureShelf {
+    ghost use Rattle.std.specs.Prelude.{List};
+    ghost use Rattle.wild_cli.specs.declared.sure.ShelfFile.{ShelfFile};
+
+    ghost Value = { List ShelfFile };
+
+    ghost view = { λ shelf. shelf.files.items };
+}
+
+impl SureShelf {
+    /// Of several files of one name the first counts. A name that no file has stands for an empty file.
+    pub fn new(files: Vec<ShelfFile>) -> SureShelf
+        ensures { result ≡ files.items }
+    {
+        SureShelf { files }
+    }
+}
+
+impl Files for SureShelf {
+    ghost held = { λ shelf name. Some (content_of shelf name) };
+
+    ghost faults = { λ shelf. 0 };
+
+    ghost failed = { λ shelf. None };
+
+    fn load(&mut self, alloc: Global, name: &Name) -> Result<Vec<u8>, LoadFault> {
+        load_content(alloc, content_of(self.files.as_slice(), name))
+    }
+}
+
+fn same_name(a: &Name, b: &Name) -> bool
+    ensures { result ≡ bytes_eq a.now b.now }
+{
+    a.bytes() == b.bytes()
+}
+
+// The content of the first file of the name.
+fn content_of<'a>(files: &'a [ShelfFile], name: &Name) -> &'a [u8]
+    ensures { result.now ≡ content_of files.now name.now }
+{
+    for file in files {
+        if same_name(&file.name, name) {
+            return file.bytes.bytes();
+        }
+    }
+    &[]
+}
+
+// A copy of the content, if a file may have it.
+fn load_content(alloc: Global, content: &[u8]) -> Result<Vec<u8>, LoadFault>
+    ensures loads { Loads content.now result }
+    ensures sure { result ≢ Err load.Failed }
+{
+    if content.len() > MAX_LENGTH {
+        return Err(LoadFault::TooLong);
+    }
+    Ok(content.to_vec(alloc)?)
+}
+
+/// A sink in memory that never fails. Contracts see the bytes that it got.
+#[derive(Debug, Drop)]
+pub struct SureTray {
+    bytes: Vec<u8>,
+}
+
+impl Model for SureTray {
+    ghost use Rattle.std.specs.Prelude.{List, ℕ};
+
+    ghost Value = { List ℕ };
+
+    ghost view = { λ tray. tray.bytes.items };
+}
+
+impl SureTray {
+    pub fn new(alloc: Global) -> SureTray
+        ensures { result ≡ [] }
+    {
+        SureTray {
+            bytes: Vec::new(alloc),
+        }
+    }
+
+    /// All that it got.
+    pub fn bytes(&self) -> &[u8]
+        ensures { result.now ≡ self.now }
+    {
+        self.bytes.as_slice()
+    }
+}
+
+impl Sink for SureTray {
+    ghost got = { λ tray. Some tray };
+
+    ghost faults = { λ tray. 0 };
+
+    fn put(&mut self, piece: &[u8]) -> Result<(), SinkFault> {
+        self.bytes.extend_from_slice(piece)?;
+        Ok(())
+    }
+}

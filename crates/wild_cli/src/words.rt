@@ -1,0 +1,52 @@
+//! The words of a command line.
+
+ghost use Rattle.std.specs.Prelude.{◌≡◌};
+ghost use Rattle.wild_cli.specs.declared.words.WordsFault.TheVariants.{NoMemory};
+ghost use Rattle.wild_cli.specs.Words.{command, is_plan, Reads};
+
+use std::alloc::Global;
+use wild_base::{Name, NoMemory};
+
+/// What the words of a command line ask for.
+#[derive(Debug, Drop)]
+pub enum Request {
+    /// The plan of a script over a table, each the name of a file.
+    Plan { script: Name, table: Name },
+}
+
+#[derive(Clone, Copy, Debug, PartialEq, Eq)]
+pub enum WordsFault {
+    /// The words are no command.
+    Usage,
+    NoMemory,
+}
+
+impl From<NoMemory> for WordsFault {
+    ghost from_gives = { λ _ e. e ≡ NoMemory };
+
+    fn from(_error: NoMemory) -> WordsFault {
+        WordsFault::NoMemory
+    }
+}
+
+fn is_plan(word: &Name) -> bool
+    ensures { result ≡ is_plan word.now }
+{
+    word.bytes() == b"plan".as_slice()
+}
+
+/// Reads `plan`, the name of a script and the name of a table.
+pub fn read_words(alloc: Global, words: &[Name]) -> Result<Request, WordsFault>
+    ensures { Reads (command words.now) result }
+{
+    let [word, script, table] = words else {
+        return Err(WordsFault::Usage);
+    };
+    if !is_plan(word) {
+        return Err(WordsFault::Usage);
+    }
+    Ok(Request::Plan {
+        script: script.copy(alloc)?,
+        table: table.copy(alloc)?,
+    })
+}
