@@ -238,8 +238,8 @@ fn push_input_lines(
 ) -> Result<(), AllocError>
     ensures { OnOk result (string_bytes out.new ≡ string_bytes out.old ++ input_lines sections.now 0 placements.now names.now) }
 {
-    for row in 0..placements.len().min(names.len()) {
-        push_input_line(out, sections, row, &placements[row], &names[row])?;
+    for (row, (placed, row_names)) in placements.iter().zip(names).enumerate() {
+        push_input_line(out, sections, row, placed, row_names)?;
     }
     Ok(())
 }
@@ -260,7 +260,9 @@ fn push_input_line(
             push_number_field(out, row as u64)?;
         }
         PlacedInput::Placed {
-            section, address, ..
+            section,
+            address,
+            ..
         } => {
             out.push_str("input")?;
             push_number_field(out, row as u64)?;

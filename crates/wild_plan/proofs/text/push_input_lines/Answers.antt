@@ -1,9 +1,9 @@
-use Rattle.std.proofs.Common.{◌≡◌, ◌++◌, ◌≤◌, ◌⊎◌, length, arith, append-nil}
-use Rattle.wild_plan.proofs.Lines.{lines_end}
+use Rattle.std.proofs.Common.{inl, inr, append-nil}
+use Rattle.wild_plan.proofs.Lines.{no_lines}
 use Rattle.wild_plan.proofs.text.push_input_lines.Goals as goal
 
+-- one of the two slices has ended
 pub returns : goal.returns
 returns c =
-    let ended : (length c.args.placements.now ≤ c.loop-row.row) ⊎ (length c.args.names.now ≤ c.loop-row.row) = grind (arith, c.min-row-end.ensures) in
-    let e = lines_end c.args.sections.now c.loop-row.row c.loop-row.row c.args.placements.now c.args.names.now ended in
-    rw (e, append-nil) at c.loop-row.invariant
+    let ended = no_lines c.args.sections.now c.loop-row.row-iterator.count _ _ (elim c.in-None.ensures.steps.0 [ inl first ↦ inl first.1.0 | inr second ↦ inr second.1.0 ]) in
+    rw (ended, append-nil) at c.loop-row.invariant
