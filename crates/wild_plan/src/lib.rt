@@ -2,15 +2,19 @@
 #![tactic(auto)]
 
 mod chunks;
+mod fault;
 mod listing;
 mod plan;
 mod planning;
 mod table;
+mod text;
 mod traits;
 mod walk;
 
+pub use fault::fault_text;
 pub use plan::Plan;
 pub use planning::plan;
+pub use text::{address_text, name_text};
 pub use wild_plan_spec::{
     Chunk, InputRow, InputRows, InputTable, Names, PlacedInput, PlacedSection, RowNames,
 };

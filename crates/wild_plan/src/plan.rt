@@ -1,11 +1,14 @@
 //! Plans.
 
-ghost use Rattle.std.specs.Prelude.{◌≡◌, ◌<◌, length, slice_get, Some};
+ghost use Rattle.std.specs.Prelude.{◌≡◌, ◌<◌, length, slice_get, Some, IfOk};
+ghost use Rattle.wild_plan_spec.specs.Text.{plan_text};
 ghost use Rattle.wild_plan_spec.specs.declared.placed.RowNames.{RowNames};
 
+use crate::text::lines_text;
 use sqlite_items::Items;
+use std::alloc::Global;
 use std::marker::Model;
-use wild_base::Name;
+use wild_base::{Name, NoMemory};
 use wild_plan_spec::{PlacedInput, PlacedSection, RowNames};
 use wild_script::LinkerScript;
 
@@ -79,5 +82,17 @@ impl Plan {
         ensures { (names : RowNames) → slice_get self.now.names row ≡ Some names → result.now ≡ names.«section» }
     {
         &self.names.as_slice()[row].section
+    }
+
+    /// The plan as it is printed: a line for each section, then one for each row.
+    pub fn plan_text(&self, alloc: Global) -> Result<Name, NoMemory>
+        ensures { IfOk result (λ text. text ≡ plan_text self.now) }
+    {
+        lines_text(
+            alloc,
+            self.sections(),
+            self.placements(),
+            self.names.as_slice(),
+        )
     }
 }
