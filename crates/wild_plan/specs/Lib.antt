@@ -1,4 +1,5 @@
 pub mod Pointed
+pub mod Paired
 pub mod Traits
 pub mod With
 pub mod Table

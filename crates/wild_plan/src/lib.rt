@@ -1,7 +1,9 @@
 //! Placement plans: where a script puts each input section of a table.
 #![tactic(auto)]
 
+mod places;
 mod plan;
+mod rules;
 mod table;
 mod traits;
 
