@@ -15,7 +15,7 @@ use wild_base::{Alignment, Fault, InputFlags, Name, Numbering};
 use wild_plan_spec::{Chunk, InputRow};
 use wild_script::Section;
 
-/// Each row has an alignment, or the first that has none is the fault.
+/// Checks that each row has an alignment. The fault is that of the first that has none.
 pub fn check_rows(rows: &[InputRow]) -> Result<(), Fault>
     ensures { Passes (failing (row_checks 0 rows.now)) result }
 {
@@ -27,7 +27,7 @@ pub fn check_rows(rows: &[InputRow]) -> Result<(), Fault>
     Ok(())
 }
 
-/// A name behind the others, unless it is there.
+/// Puts a name behind the others, unless it stands among them.
 #[tactic(auto, using(crate::proofs::Names::any_number))]
 fn push_name(alloc: Global, names: &mut Numbering, name: &Name) -> Result<(), Fault>
     ensures pushed { OnOk result (names.new ≡ names.old ++ name.now ∷ []) }
@@ -41,7 +41,7 @@ fn push_name(alloc: Global, names: &mut Numbering, name: &Name) -> Result<(), Fa
     Ok(())
 }
 
-/// No two sections have one name, or the first that has an earlier one's is the fault.
+/// Checks that no two sections have one name. The fault is that of the first with the name of an earlier one.
 pub fn check_names(alloc: Global, sections: &[&Section]) -> Result<(), Fault>
     ensures { Passes (failing (name_checks [] (pointed sections.now))) result }
 {
@@ -52,7 +52,7 @@ pub fn check_names(alloc: Global, sections: &[&Section]) -> Result<(), Fault>
     Ok(())
 }
 
-/// It is in memory, and has no other flags than those of what it holds.
+/// It is in memory, and neither without bits, nor thread-local, nor excluded.
 fn is_plain(flags: InputFlags) -> bool
     ensures { result ≡ is_plain flags }
 {
@@ -73,7 +73,7 @@ fn row_chunk(rules: &Rules, index: usize, row: &InputRow) -> Result<Chunk, Fault
     }
 }
 
-/// The chunk of each row. The first row that has none, or flags that are not built, is the fault.
+/// The chunk of each row. The fault is that of the first row with no chunk, or with flags that are not built.
 pub fn find_row_chunks(
     alloc: Global,
     rules: &Rules,

@@ -38,7 +38,7 @@ fn push_section(places: &mut Items<Place>, number: usize, section: &Section) -> 
     Ok(())
 }
 
-/// The places of these sections, which have their numbers in order from 0.
+/// The places of these sections, which are numbered in order from 0. Fails where memory runs out.
 pub fn find_places(alloc: Global, sections: &[&Section]) -> Result<Items<Place>, NoMemory>
     ensures { IfOk result (λ places. places ≡ all_places 0 (pointed sections.now)) }
 {

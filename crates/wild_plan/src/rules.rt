@@ -35,7 +35,7 @@ fn push_sections<'a>(
     Ok(())
 }
 
-/// The sections of a script in text order.
+/// The sections of a script in text order. Fails where memory runs out.
 pub fn sections(alloc: Global, script: &LinkerScript) -> Result<Items<&Section>, NoMemory>
     ensures { IfOk result (λ sections. pointed sections ≡ sections_of script.now) }
 {
@@ -77,7 +77,7 @@ impl Rules {
         }
     }
 
-    /// A rule behind the others.
+    /// The same with a rule behind the others.
     #[tactic(auto, using(crate::proofs::Paired::paired_push, crate::proofs::Paired::longer))]
     fn with(self, alloc: Global, name: &Name, chunk: Chunk) -> Result<Rules, NoMemory>
         ensures { IfOk result (λ rules. rules ≡ self ++ record { name = name.now; chunk = chunk } ∷ []) }
@@ -140,7 +140,7 @@ impl Rules {
     }
 }
 
-/// The rules of these sections, which have their numbers in order from 0.
+/// The rules of these sections, which are numbered in order from 0. Fails where memory runs out.
 pub fn find_rules(alloc: Global, sections: &[&Section]) -> Result<Rules, NoMemory>
     ensures { IfOk result (λ rules. rules ≡ section_rules 0 (pointed sections.now)) }
 {
