@@ -1,4 +1,6 @@
 pub mod Pointed
+pub mod Paired
+pub mod Passes
 pub mod Traits
 pub mod With
 pub mod Table

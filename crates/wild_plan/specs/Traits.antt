@@ -1,5 +1,5 @@
 -- What the rows of a section say of it.
-use Rattle.std.specs.Prelude.{ℕ, false, List, []}
+use Rattle.std.specs.Prelude.{ℕ, ◌||◌, false, List, max}
 use Rattle.std.specs.Option.{unwrap_or}
 use Rattle.std.specs.List.{list_any}
 use Rattle.std.specs.Ordering.{nat_cmp}
@@ -17,3 +17,7 @@ traits_of rows = record { alignment = largest_alignment rows; write = list_any (
 -- the traits that are kept of section s
 abbrev pub traits_at : SectionTraits → ℕ → Traits
 traits_at ts s = unwrap_or (get nat_cmp ts.by_section s) (record { alignment = 0; write = false; exec = false })
+
+-- the traits of the rows of both
+abbrev pub joined : Traits → Traits → Traits
+joined t u = record { alignment = max t.alignment u.alignment; write = t.write || u.write; exec = t.exec || u.exec }

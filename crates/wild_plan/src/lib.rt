@@ -1,11 +1,14 @@
 //! Placement plans: where a script puts each input section of a table.
 #![tactic(auto)]
 
+mod check;
 mod chunks;
 mod fault;
 mod listing;
+mod places;
 mod plan;
 mod planning;
+mod rules;
 mod table;
 mod text;
 mod traits;

@@ -1,10 +1,15 @@
 //! What the rows of a section say of it.
 
-ghost use Rattle.std.specs.Prelude.{◌≡◌};
-ghost use Rattle.wild_plan.specs.Traits.{traits_of, traits_at};
+ghost use Rattle.std.specs.Prelude.{◌≡◌, ℕ, [], ◌∷◌, OnOk, IfOk, ◌==◌, if◌then◌else◌, slice_get, length, Some, ◌<◌};
+ghost use Rattle.wild_plan_spec.specs.Chunks.{alignment_of};
+ghost use Rattle.wild_plan.specs.Traits.{traits_of, traits_at, joined};
+ghost use Rattle.wild_plan.specs.With.{section_rows_with};
 
+use bitflags::Flags;
+use std::alloc::Global;
 use std::collections::BTreeMap;
-use wild_base::Alignment;
+use wild_base::{Alignment, InputFlags, NoMemory};
+use wild_plan_spec::{Chunk, InputRow};
 
 /// What the rows of a section say of it.
 #[derive(Clone, Copy, Debug)]
@@ -23,6 +28,29 @@ pub struct SectionTraits {
     pub by_section: BTreeMap<usize, Traits>,
 }
 
+/// The alignment of a row, or 1 where it has none.
+pub(crate) fn alignment_of(row: &InputRow) -> Alignment
+    ensures { result ≡ alignment_of row.now }
+{
+    match Alignment::new(row.alignment) {
+        Ok(alignment) => alignment,
+        Err(_) => wild_base::alignment::MIN,
+    }
+}
+
+impl Traits {
+    /// The same with one more row.
+    fn with(self, row: &InputRow) -> Traits
+        ensures { result ≡ joined self (traits_of (row.now ∷ [])) }
+    {
+        Traits {
+            alignment: self.alignment.max(alignment_of(row)),
+            write: self.write || row.flags.contains(InputFlags::WRITE),
+            exec: self.exec || row.flags.contains(InputFlags::EXEC),
+        }
+    }
+}
+
 impl SectionTraits {
     /// The traits of the section of this number.
     pub fn get(&self, section: usize) -> Traits
@@ -33,6 +61,23 @@ impl SectionTraits {
             None => NONE,
         }
     }
+
+    fn new(alloc: Global) -> SectionTraits
+        ensures { (s : ℕ) → traits_at result s ≡ traits_of [] }
+    {
+        SectionTraits {
+            by_section: BTreeMap::new(alloc),
+        }
+    }
+
+    /// One more row of this section.
+    fn note(&mut self, section: usize, row: &InputRow) -> Result<(), NoMemory>
+        ensures { OnOk result ((s : ℕ) → traits_at self.new s ≡ (if section == s then joined (traits_at self.old s) (traits_of (row.now ∷ [])) else traits_at self.old s)) }
+    {
+        let traits = self.get(section).with(row);
+        self.by_section.insert(section, traits)?;
+        Ok(())
+    }
 }
 
 /// The traits of a section without rows.
@@ -41,3 +86,26 @@ pub const NONE: Traits = Traits {
     write: false,
     exec: false,
 };
+
+fn chunk_at(chunks: &[Chunk], index: usize) -> Chunk
+    requires { index < length chunks.now }
+    ensures { slice_get chunks.now index ≡ Some result }
+{
+    chunks[index]
+}
+
+/// The traits of all sections, by the rows and the chunk of each. Fails where memory runs out.
+pub fn find_traits(
+    alloc: Global,
+    rows: &[InputRow],
+    chunks: &[Chunk],
+) -> Result<SectionTraits, NoMemory>
+    requires { length chunks.now ≡ length rows.now }
+    ensures { IfOk result (λ traits. (s : ℕ) → traits_at traits s ≡ traits_of (section_rows_with s rows.now chunks.now)) }
+{
+    let mut traits = SectionTraits::new(alloc);
+    for (index, row) in rows.iter().enumerate() {
+        traits.note(chunk_at(chunks, index).section, row)?;
+    }
+    Ok(traits)
+}

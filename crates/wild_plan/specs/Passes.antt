@@ -1,0 +1,20 @@
+-- What a check answers.
+use Rattle.std.specs.Prelude.{◌≡◌, ◌⊎◌, List, Option, Some, None, Result, IfOk, IfErr, if◌then◌else◌}
+use Rattle.std.specs.List.{list_any}
+use Rattle.wild_base.specs.Numbering.{is_named}
+use Rattle.wild_base.specs.declared.fault.Fault.{Fault}
+use Rattle.wild_base.specs.declared.fault.Fault.TheVariants.{DuplicateSection, NoMemory}
+use Rattle.wild_plan_spec.specs.Names.{Name}
+
+-- memory ran out, or this is the fault that is wanted
+abbrev pub IsWanted : Option Fault → Fault → Type 0
+IsWanted wanted fault = (fault ≡ NoMemory) ⊎ (wanted ≡ Some fault)
+
+-- it passes where no fault is wanted, and else has the fault, unless memory ran out
+pub record Passes (wanted : Option Fault) (result : Result (Unit {0}) Fault) : Type 0 where
+  pub ok : IfOk result (λ u. wanted ≡ None)
+  pub err : IfErr result (IsWanted wanted)
+
+-- the fault of a section whose name stands among these
+abbrev pub repeated : List Name → Name → Option Fault
+repeated names x = if list_any (is_named x) names then Some (DuplicateSection x) else None
