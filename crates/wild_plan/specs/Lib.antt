@@ -7,6 +7,7 @@ pub mod Table
 pub mod Chunks
 pub mod Moves
 pub mod Listed
+pub mod Composed
 pub use Rattle.wild_plan_spec.specs.Fit
 pub use Rattle.wild_plan_spec.specs.Layout
 pub use Rattle.wild_plan_spec.specs.Text

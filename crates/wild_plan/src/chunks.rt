@@ -3,15 +3,16 @@
 ghost use Rattle.std.specs.Prelude.{◌≡◌, [], ◌∷◌, ◌++◌, length, if◌then◌else◌, IfOk, OnOk};
 ghost use Rattle.std.specs.List.{filter};
 ghost use Rattle.wild_plan_spec.specs.declared.chunk.Chunk.{Chunk};
-ghost use Rattle.wild_plan_spec.specs.Chunks.{alignment_of, is_of};
+ghost use Rattle.wild_plan_spec.specs.Chunks.{is_of};
 ghost use Rattle.wild_plan_spec.specs.Order.{IsOrdered, stands_before};
 ghost use Rattle.wild_plan.specs.Chunks.{rows_at};
 ghost use Rattle.wild_plan.specs.With.{kept_with};
 
+use crate::traits::alignment_of;
 use std::alloc::{AllocError, Global};
 use std::cmp::Reverse;
 use std::collections::BTreeMap;
-use wild_base::{Alignment, NoMemory, alignment};
+use wild_base::NoMemory;
 use wild_plan_spec::{Chunk, ChunkRow, InputRow};
 
 /// The rows of each chunk, in their order.
@@ -54,13 +55,6 @@ impl Chunks {
             }
         }
     }
-}
-
-/// The alignment of a row, or the least where it has none.
-fn alignment_of(row: &InputRow) -> Alignment
-    ensures { result ≡ alignment_of row.now }
-{
-    Alignment::new(row.alignment).unwrap_or(alignment::MIN)
 }
 
 /// The rows in table order, each with its chunk.

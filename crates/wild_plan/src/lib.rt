@@ -5,8 +5,8 @@ mod check;
 mod chunks;
 mod fault;
 mod listing;
+mod placement;
 mod places;
-mod plan;
 mod planning;
 mod rules;
 mod table;
@@ -15,7 +15,7 @@ mod traits;
 mod walk;
 
 pub use fault::fault_text;
-pub use plan::Plan;
+pub use placement::Plan;
 pub use planning::plan;
 pub use text::{address_text, name_text};
 pub use wild_plan_spec::{

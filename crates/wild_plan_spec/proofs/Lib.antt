@@ -1,0 +1,4 @@
+pub mod Ordered
+pub mod RowOrder
+pub mod Standing
+pub mod Unique

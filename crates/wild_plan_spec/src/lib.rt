@@ -2,9 +2,11 @@
 #![tactic(auto)]
 
 mod chunk;
+mod laws;
 mod placed;
 mod row;
 
 pub use chunk::{Chunk, ChunkRow, Place};
+pub use laws::{one_fault, one_plan_fits, plan_or_fault, rows_have_one_order};
 pub use placed::{Names, PlacedInput, PlacedSection, RowNames};
 pub use row::{InputRow, InputRows, InputTable};

@@ -4,7 +4,7 @@ use Rattle.std.specs.List.{filter}
 use Rattle.wild_plan_spec.specs.Chunks.{is_of}
 use Rattle.wild_plan_spec.specs.Order.{IsOrdered, stands_before}
 use Rattle.wild_plan.specs.With.{kept_with}
-use Rattle.wild_plan.proofs.RowOrder.{rows_filtered}
+use Rattle.wild_plan_spec.proofs.RowOrder.{rows_filtered}
 use Rattle.wild_plan.proofs.chunks.find_chunks.Goals as goal
 
 pub returns : goal.returns

@@ -4,7 +4,7 @@ use Rattle.std.proofs.lemmas.Result.{err_from_is_err_and}
 use Rattle.wild_plan_spec.specs.Walk.{Stands}
 use Rattle.wild_plan.specs.Chunks.{rows_at}
 use Rattle.wild_plan.specs.Traits.{traits_at}
-use Rattle.wild_plan.proofs.Standing.{stands_first, stands_more, refuses_at}
+use Rattle.wild_plan_spec.proofs.Standing.{stands_first, stands_more, refuses_at}
 use Rattle.wild_plan.proofs.walk.lay_out.Goals as goal
 
 pub loop-place-init : goal.loop-place-init

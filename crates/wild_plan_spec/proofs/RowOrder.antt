@@ -7,7 +7,7 @@ use Rattle.std.proofs.lemmas.List.Sorted.{ranks_by}
 use Rattle.wild_plan_spec.specs.declared.chunk.Chunk.{Chunk}
 use Rattle.wild_plan_spec.specs.declared.chunk.ChunkRow.{ChunkRow}
 use Rattle.wild_plan_spec.specs.Order.{IsOrdered, chunk_cmp, row_cmp, stands_before}
-use Rattle.wild_plan.proofs.Ordered.{ordered_once, ordered_filter}
+use Rattle.wild_plan_spec.proofs.Ordered.{ordered_once, ordered_filter}
 
 chunk_total : IsTotalOrder chunk_cmp
 chunk_total = then_total (on_total (λ (q : Chunk). q.«section») nat_cmp_total) (on_total (λ (q : Chunk). q.number) nat_cmp_total)
