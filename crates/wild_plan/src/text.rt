@@ -1,6 +1,6 @@
 //! Names, numbers and plans as they are printed.
 
-ghost use Rattle.std.specs.Prelude.{◌≡◌, ◌<◌, ◌^◌, ◌++◌, ◌∷◌, OnOk, IfOk, string_bytes, decimal, flat_map};
+ghost use Rattle.std.specs.Prelude.{◌≡◌, ◌<◌, ◌++◌, ◌∷◌, OnOk, IfOk, string_bytes, decimal, flat_map};
 ghost use Rattle.wild_plan_spec.specs.Text.{is_plain, printed_byte, printed_name, printed_address, field, letter, letters_of, printed_flags, printed_fill, printed_region, more_names, printed_names, name_at, section_line, input_line, input_lines};
 
 use crate::{PlacedInput, PlacedSection, RowNames};
