@@ -1,6 +1,6 @@
 //! What is checked before a script and its rows are laid out.
 
-ghost use Rattle.std.specs.Prelude.{◌≡◌, [], ◌∷◌, ◌++◌, false, true, None, Some, OnOk, IfOk, IfErr};
+ghost use Rattle.std.specs.Prelude.{◌≡◌, [], ◌∷◌, ◌++◌, None, Some, OnOk, IfOk, IfErr};
 ghost use Rattle.wild_plan_spec.specs.Rules.{chunk_of};
 ghost use Rattle.wild_plan_spec.specs.Checks.{row_checks, name_checks, support_checks, is_plain, failing};
 ghost use Rattle.wild_plan.specs.Pointed.{pointed};
