@@ -8,6 +8,9 @@ ghost use Rattle.wild_cli.specs.declared.device.SinkFault.TheVariants as sink;
 use std::alloc::{AllocError, Global};
 use wild_base::{Name, NoMemory};
 
+// How many bytes a file may have.
+pub(crate) const MAX_LENGTH: usize = 1 << 24;
+
 /// Why a file was not loaded.
 #[derive(Clone, Copy, Debug, PartialEq, Eq)]
 pub enum LoadFault {

@@ -1,15 +1,14 @@
 //! Real files and streams. Nothing is told of what they hold.
 
-ghost use Rattle.std.specs.Prelude.{◌≡◌, ◌≤◌, ◌^◌, vec_len, None, IfOk};
-ghost use Rattle.wild_cli.specs.Device.{Rose};
+ghost use Rattle.std.specs.Prelude.{◌≡◌, ◌≤◌, vec_len, None, IfOk, IfSome};
+ghost use Rattle.wild_cli.specs.Device.{Rose, Loads, Puts, max_length};
 
+use crate::device::MAX_LENGTH;
 use crate::{Files, LoadFault, Sink, SinkFault};
 use std::alloc::Global;
 use std::io::{Read, Write};
 use std::{fs, str};
 use wild_base::Name;
-
-const MAX_LENGTH: usize = 1 << 24;
 
 /// The files of the system, by their paths. A name that isn't UTF-8 fails.
 #[derive(Debug, Drop)]
@@ -72,8 +71,10 @@ fn load_path<R: std::rt::Files>(
 }
 
 // All that a reader gives, unless that is more than a file may have. It takes one byte more at most.
+#[tactic(auto, using(crate::proofs::Streams::reads))]
 fn read_all<R: Read>(alloc: Global, reader: &mut R) -> Result<Vec<u8>, LoadFault>
-    ensures { IfOk result (λ bytes. vec_len bytes ≤ 2 ^ 24) }
+    ensures told { IfSome (R.remaining reader.old) (λ content. Loads content result) }
+    ensures length { IfOk result (λ bytes. vec_len bytes ≤ max_length) }
 {
     let mut bytes = Vec::new(alloc);
     let mut buffer = [0u8; 4096];
@@ -110,23 +111,25 @@ impl<W: Write> Sink for StreamSink<W> {
     ghost faults = { λ sink. sink.faults };
 
     fn put(&mut self, piece: &[u8]) -> Result<(), SinkFault> {
-        if write_piece(&mut self.stream, piece) {
-            Ok(())
-        } else {
+        let written = write_piece(&mut self.stream, piece);
+        if written.is_err() {
             self.faults = next_count(self.faults);
-            Err(SinkFault::Failed)
         }
+        written
     }
 }
 
-// Whether the stream took the whole piece.
-fn write_piece<W: Write>(stream: &mut W, piece: &[u8]) -> bool {
-    let mut rest = piece;
-    while !rest.is_empty() {
-        match stream.write(rest) {
-            Ok(0) | Err(_) => return false,
-            Ok(count) => rest = &rest[count..],
+// Writes the whole piece, or fails behind a prefix of it.
+#[tactic(auto, using(crate::proofs::Streams::writes))]
+fn write_piece<W: Write>(stream: &mut W, piece: &[u8]) -> Result<(), SinkFault>
+    ensures { Puts (W.contents stream.old) (W.contents stream.new) piece.now result }
+{
+    let mut taken = 0;
+    while taken < piece.len() {
+        match stream.write(&piece[taken..]) {
+            Ok(0) | Err(_) => return Err(SinkFault::Failed),
+            Ok(count) => taken += count,
         }
     }
-    true
+    Ok(())
 }

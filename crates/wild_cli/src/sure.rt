@@ -6,12 +6,11 @@ ghost use Rattle.wild_cli.specs.Device.{Loads};
 ghost use Rattle.wild_cli.specs.Shelf.{content_of};
 ghost use Rattle.wild_cli.specs.declared.device.LoadFault.TheVariants as load;
 
+use crate::device::MAX_LENGTH;
 use crate::{Files, LoadFault, Sink, SinkFault};
 use std::alloc::Global;
 use std::marker::Model;
 use wild_base::Name;
-
-const MAX_LENGTH: usize = 1 << 24;
 
 /// A file in memory.
 #[derive(Debug, Drop)]
