@@ -4,3 +4,7 @@ pub mod Number
 pub mod Shelf
 pub mod Table
 pub mod Words
+pub mod Refusal
+pub mod Due
+pub mod Run
+pub mod Answers

@@ -1,0 +1,55 @@
+-- What the parts of a run answer.
+use Rattle.std.specs.Prelude.{◌≡◌, ◌<◌, ◌≤◌, ℕ, List, length, Option, Some, None, Result, Ok, Err, Vec, ⊤}
+use Rattle.std.specs.declared.alloc.Global.{Global}
+use Rattle.wild_plan_spec.specs.declared.row.InputRow.{InputRow}
+use Rattle.wild_plan_spec.specs.Fit.{IsThePlan, IsTheFault}
+use Rattle.wild_plan_spec.specs.Layout.{Layout}
+use Rattle.wild_plan_spec.specs.Names.{Name}
+use Rattle.wild_plan_spec.specs.Text.{plan_text}
+use Rattle.wild_cli.specs.Device.{Rose, max_length}
+use Rattle.wild_cli.specs.Due.{Answer}
+use Rattle.wild_cli.specs.declared.refusal.Refusal as r
+use Rattle.wild_cli.specs.declared.refusal.Refusal.TheVariants.{Fault, Usage, NotLoaded, NoMemory, BadRecord, TooLong}
+
+-- the text of the one plan that fits, or the fault, unless memory ran out
+abbrev pub PlanRefused : List ℕ → List InputRow → r.Refusal → Type 0
+PlanRefused script rows (Fault fault) = IsTheFault script rows fault
+PlanRefused script rows NoMemory = ⊤
+PlanRefused script rows Usage = ⊥
+PlanRefused script rows (NotLoaded name) = ⊥
+PlanRefused script rows (BadRecord index) = ⊥
+PlanRefused script rows (TooLong name) = ⊥
+
+abbrev pub Plans : List ℕ → List InputRow → Answer → Type 0
+Plans script rows (Ok text) = (plan : Layout) × IsThePlan script rows plan × (text ≡ plan_text plan)
+Plans script rows (Err why) = PlanRefused script rows why
+
+-- the content of a file of this name, or a refusal, and what the counts then show
+abbrev pub LoadRefused : Name → Option (List ℕ) → r.Refusal → Type 0
+LoadRefused name None (TooLong other) = other ≡ name
+LoadRefused name (Some content) (TooLong other) = (other ≡ name) × (max_length < length content)
+LoadRefused name content (NotLoaded other) = other ≡ name
+LoadRefused name content NoMemory = ⊤
+LoadRefused name content Usage = ⊥
+LoadRefused name content (Fault fault) = ⊥
+LoadRefused name content (BadRecord index) = ⊥
+
+abbrev pub LoadTold : Option (List ℕ) → List ℕ → Type 0
+LoadTold None bytes = ⊤
+LoadTold (Some content) bytes = (bytes ≡ content) × (length content ≤ max_length)
+
+abbrev pub LoadsFile : Name → Option (List ℕ) → Result (Vec ℕ Global) r.Refusal → Type 0
+LoadsFile name content (Ok bytes) = LoadTold content bytes.items
+LoadsFile name content (Err why) = LoadRefused name content why
+
+abbrev pub RefusalCounts : ℕ → ℕ → Option Name → r.Refusal → Type 0
+RefusalCounts before now failed (NotLoaded name) = Rose before now × (failed ≡ Some name)
+RefusalCounts before now failed (TooLong name) = now ≡ before
+RefusalCounts before now failed NoMemory = now ≡ before
+RefusalCounts before now failed Usage = now ≡ before
+RefusalCounts before now failed (Fault fault) = now ≡ before
+RefusalCounts before now failed (BadRecord index) = now ≡ before
+
+abbrev pub FileCounts : ℕ → ℕ → Option Name → Result (Vec ℕ Global) r.Refusal → Type 0
+FileCounts before now failed (Ok bytes) = now ≡ before
+FileCounts before now failed (Err why) = RefusalCounts before now failed why

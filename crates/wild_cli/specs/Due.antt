@@ -1,0 +1,85 @@
+-- What the words and the told files ask for, and which answers meet that.
+use Rattle.std.specs.Prelude.{◌≡◌, ◌⊎◌, ℕ, Bool, nat_lt, List, length, Option, Some, None, IfSome, IsSome, Result, Ok, Err, if◌then◌else◌}
+use Rattle.wild_base.specs.declared.fault.Fault as f
+use Rattle.wild_plan_spec.specs.declared.row.InputRow.{InputRow}
+use Rattle.wild_plan_spec.specs.Fit.{IsPlan, IsFault}
+use Rattle.wild_plan_spec.specs.Layout.{Layout}
+use Rattle.wild_plan_spec.specs.Names.{Name}
+use Rattle.wild_plan_spec.specs.Text.{plan_text}
+use Rattle.wild_cli.specs.Device.{max_length}
+use Rattle.wild_cli.specs.Refusal.{status_of}
+use Rattle.wild_cli.specs.Table.{table}
+use Rattle.wild_cli.specs.declared.words.Request.{Request}
+use Rattle.wild_cli.specs.declared.words.Request.TheVariants.{Plan}
+use Rattle.wild_cli.specs.declared.refusal.Refusal as r
+use Rattle.wild_cli.specs.declared.refusal.Refusal.TheVariants as refusal
+
+-- the text that is to be written, or why there is none
+abbrev pub Answer : Type 0
+Answer = Result (List ℕ) r.Refusal
+
+-- ---- tasks
+
+-- what is asked for: nothing, a file that is too long, a table with a bad record, or the plan of a script over rows
+pub data Task : Type 0 where
+  NoCommand : Task
+  LongFile : Name → Task
+  BadTable : ℕ → Task
+  PlanOf : List ℕ → List InputRow → Task
+
+abbrev pub is_too_long : List ℕ → Bool
+is_too_long content = nat_lt max_length (length content)
+
+abbrev pub task_of_rows : List ℕ → Result (List InputRow) ℕ → Task
+task_of_rows script (Ok rows) = PlanOf script rows
+task_of_rows script (Err index) = BadTable index
+
+-- the script is at hand; the table is this, where it is told
+abbrev pub task_of_table : List ℕ → Name → Option (List ℕ) → Option Task
+task_of_table script name None = None
+task_of_table script name (Some content) = Some (if is_too_long content then LongFile name else task_of_rows script (table content))
+
+abbrev pub task_of_script : Name → Option (List ℕ) → Name → Option (List ℕ) → Option Task
+task_of_script name None table_name table_content = None
+task_of_script name (Some content) table_name table_content = if is_too_long content then Some (LongFile name) else task_of_table content table_name table_content
+
+-- the task, where the files that decide it are told
+abbrev pub task_of : (Name → Option (List ℕ)) → Option Request → Option Task
+task_of held None = Some NoCommand
+task_of held (Some (Plan script name)) = task_of_script script (held script) name (held name)
+
+-- ---- answers
+
+-- a text is that of a plan that fits, and a fault is one of the script and the rows
+abbrev pub MeetsPlan : List ℕ → List InputRow → Answer → Type 0
+MeetsPlan script rows (Ok text) = (plan : Layout) × IsPlan script rows plan × (text ≡ plan_text plan)
+MeetsPlan script rows (Err (refusal.Fault fault)) = IsFault script rows fault
+MeetsPlan script rows (Err refusal.Usage) = ⊥
+MeetsPlan script rows (Err (refusal.NotLoaded name)) = ⊥
+MeetsPlan script rows (Err refusal.NoMemory) = ⊥
+MeetsPlan script rows (Err (refusal.BadRecord index)) = ⊥
+MeetsPlan script rows (Err (refusal.TooLong name)) = ⊥
+
+abbrev pub Meets : Task → Answer → Type 0
+Meets NoCommand answer = answer ≡ Err refusal.Usage
+Meets (LongFile name) answer = answer ≡ Err (refusal.TooLong name)
+Meets (BadTable index) answer = answer ≡ Err (refusal.BadRecord index)
+Meets (PlanOf script rows) answer = MeetsPlan script rows answer
+
+-- two answers are one, or both are faults
+abbrev pub Agree : Answer → Answer → Type 0
+Agree a b = (a ≡ b) ⊎ ((fault : f.Fault) × (other : f.Fault) × (a ≡ Err (refusal.Fault fault)) × (b ≡ Err (refusal.Fault other)))
+
+-- the answer meets the task, and every other that does agrees with it: one text, or no text and a fault
+pub record Settles (task : Task) (answer : Answer) : Type 0 where
+  pub meets : Meets task answer
+  pub only : (other : Answer) → Meets task other → Agree other answer
+
+-- the words are a command, and the answer settles their task, where it is told
+pub record IsDue (held : Name → Option (List ℕ)) (command : Option Request) (answer : Answer) : Type 0 where
+  pub asked : IsSome command
+  pub settles : IfSome (task_of held command) (λ task. Settles task answer)
+
+abbrev pub status_of_answer : Answer → ℕ
+status_of_answer (Ok text) = 0
+status_of_answer (Err why) = status_of why
