@@ -18,6 +18,7 @@ use Rattle.wild_plan_spec.specs.Layout.{row_names}
 use Rattle.wild_plan_spec.specs.Fit.{Fits, FaultIn}
 use Rattle.wild_plan.specs.declared.planning.Checked.{Checked}
 use Rattle.wild_plan.specs.declared.planning.Lists.{Lists}
+use Rattle.wild_plan.specs.declared.traits.Traits.{Traits}
 use Rattle.wild_plan.specs.Listed.{sections_by}
 use Rattle.wild_plan.specs.Pointed.{pointed}
 use Rattle.wild_plan.specs.Traits.{traits_of}
@@ -29,7 +30,7 @@ pub record IsChecked (t : LinkerScript) (rows : List InputRow) (checked : Checke
   pub sections : pointed checked.sections ≡ sections_of t
   pub chunks : AreChunks (rules_of t) rows checked.chunks
 
-module _ (sections : List Section) (rows : List InputRow) (chunks : List Chunk) where
+module _ (rows : List InputRow) (chunks : List Chunk) where
   -- the rows of each chunk, in their order
   abbrev pub AreOrderedWith : (Chunk → List ChunkRow) → Type 0
   AreOrderedWith order = (q : Chunk) → IsOrdered stands_before (filter (is_of q) (kept_with 0 rows chunks)) (order q)
@@ -38,18 +39,22 @@ module _ (sections : List Section) (rows : List InputRow) (chunks : List Chunk) 
   abbrev pub alignment_with : ℕ → ℕ
   alignment_with s = largest_alignment (section_rows_with s rows chunks)
 
-  -- all places are laid out, and the lists say what is then known
-  pub record IsLaidOut (lists : Lists) : Type 0 where
-    pub order : Chunk → List ChunkRow
-    pub ordered : AreOrderedWith order
-    pub state : State
-    pub stands : Stands alignment_with order (all_places 0 sections) (length (all_places 0 sections)) state
-    pub sections : lists.sections ≡ sections_by state.known (λ s. traits_of (section_rows_with s rows chunks)) 0 sections
-    pub placements : lists.placements ≡ placed_with state.known 0 chunks
-    pub names : lists.names ≡ row_names rows
+  -- what the rows of a section say of it
+  abbrev pub traits_with : ℕ → Traits
+  traits_with s = traits_of (section_rows_with s rows chunks)
 
-  -- a place refuses
-  pub record IsRefused (fault : Fault) : Type 0 where
-    pub order : Chunk → List ChunkRow
-    pub ordered : AreOrderedWith order
-    pub refuses : Refuses alignment_with order (all_places 0 sections) fault
+-- all places are laid out, and the lists say what is then known
+pub record IsLaidOut (sections : List Section) (rows : List InputRow) (chunks : List Chunk) (lists : Lists) : Type 0 where
+  pub order : Chunk → List ChunkRow
+  pub ordered : AreOrderedWith rows chunks order
+  pub state : State
+  pub stands : Stands (alignment_with rows chunks) order (all_places 0 sections) (length (all_places 0 sections)) state
+  pub section_list : lists.sections ≡ sections_by state.known (traits_with rows chunks) 0 sections
+  pub placement_list : lists.placements ≡ placed_with state.known 0 chunks
+  pub name_list : lists.names ≡ row_names rows
+
+-- a place refuses
+pub record IsRefused (sections : List Section) (rows : List InputRow) (chunks : List Chunk) (fault : Fault) : Type 0 where
+  pub order : Chunk → List ChunkRow
+  pub ordered : AreOrderedWith rows chunks order
+  pub refuses : Refuses (alignment_with rows chunks) order (all_places 0 sections) fault
