@@ -1,0 +1,46 @@
+//! Plans the sections of a link, by a linker script and a table of input sections.
+#![tactic(auto)]
+
+use std::alloc::{AllocError, Global};
+use std::process::ExitCode;
+use std::{env, io};
+use wild_base::Name;
+use wild_cli::{DirFiles, StreamSink, run};
+
+/// The status where memory runs out.
+const NO_MEMORY: u8 = 5;
+
+/// The status where the words cannot be had for another cause. A run never ends with it.
+const NO_WORDS: u8 = 9;
+
+fn main(rt: HostRuntime) -> ExitCode {
+    let alloc = rt.alloc();
+    let args = match env::args(&rt) {
+        Ok(args) => args,
+        Err(error) => return ExitCode::from(status_without_args(&error)),
+    };
+    let Ok(words) = words_of(alloc, args) else {
+        return ExitCode::from(NO_MEMORY);
+    };
+    let mut out = StreamSink::new(rt.stdout());
+    let mut err = StreamSink::new(rt.stderr());
+    let mut files = DirFiles::new(rt);
+    ExitCode::from(run(alloc, &words, &mut files, &mut out, &mut err))
+}
+
+fn status_without_args(error: &io::Error) -> u8 {
+    if error.kind() == io::ErrorKind::OutOfMemory {
+        NO_MEMORY
+    } else {
+        NO_WORDS
+    }
+}
+
+// The words behind the program's name.
+fn words_of(alloc: Global, args: env::Args) -> Result<Vec<Name>, AllocError> {
+    let mut words = Vec::new(alloc);
+    for word in args.skip(1) {
+        words.push(Name::from_vec(word.into_bytes()))?;
+    }
+    Ok(words)
+}
