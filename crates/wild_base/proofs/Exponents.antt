@@ -33,4 +33,4 @@ exponent_is raw (Ok e) h =
 exponent_is raw (Err NotPowerOfTwo) h = sym (none (λ k. raw == 2 ^ k) 0 22 (λ k less. ne_eqb raw (2 ^ k) (h k)))
 exponent_is raw (Err TooLarge) h =
     sym (none (λ k. raw == 2 ^ k) 0 22 (λ k less. ne_eqb raw (2 ^ k) (λ same.
-        let low : k < h.0 = omega (arith, h.2) in omega (arith, pow-lt low, h.1, same))))
+    let low : k < h.0 = omega (arith, h.2) in omega (arith, pow-lt low, h.1, same))))

@@ -29,7 +29,7 @@ impl Model for Name {
 }
 
 impl Name {
-    /// A name of these bytes.
+    /// A name of these bytes. Fails where memory runs out.
     pub fn new(alloc: Global, bytes: &[u8]) -> Result<Name, NoMemory>
         ensures { IfOk result (λ name. name ≡ bytes.now) }
     {
@@ -44,24 +44,28 @@ impl Name {
         Name { bytes }
     }
 
+    /// The same name once more. Fails where memory runs out.
     pub fn copy(&self, alloc: Global) -> Result<Name, NoMemory>
         ensures { IfOk result (λ name. name ≡ self.now) }
     {
         Name::new(alloc, self.bytes())
     }
 
+    /// The bytes of the name.
     pub fn bytes(&self) -> &[u8]
         ensures { result.now ≡ self.now }
     {
         self.bytes.as_slice()
     }
 
+    /// How many bytes it has.
     pub fn len(&self) -> usize
         ensures { result ≡ length self.now }
     {
         self.bytes.len()
     }
 
+    /// Whether it has no bytes.
     pub fn is_empty(&self) -> bool
         ensures { IsTrue result ↔ (self.now ≡ []) }
     {

@@ -1,6 +1,6 @@
 //! Names, each with a number.
 
-ghost use Rattle.std.specs.Prelude.{◌≡◌, [], ◌∷◌, ◌++◌, OnOk, length};
+ghost use Rattle.std.specs.Prelude.{◌≡◌, [], ◌∷◌, ◌++◌, OnOk, OnErr, length};
 ghost use Rattle.wild_base.specs.Numbering.{number_of};
 
 use crate::fault::NoMemory;
@@ -42,6 +42,7 @@ impl Numbering {
         }
     }
 
+    /// How many names there are, each as often as it was put in.
     pub fn len(&self) -> usize
         ensures { result ≡ length self.now }
     {
@@ -55,9 +56,11 @@ impl Numbering {
         self.numbers.get(name).copied()
     }
 
-    /// Puts a name at the end. Where it stands twice, its number is the first.
+    /// Puts a name at the end. Where it stands twice, its number is the first. Fails where memory runs out, and then
+    /// nothing has changed.
     pub fn push(&mut self, alloc: Global, name: &Name) -> Result<(), NoMemory>
-        ensures { OnOk result (self.new ≡ self.old ++ name.now ∷ []) }
+        ensures pushed { OnOk result (self.new ≡ self.old ++ name.now ∷ []) }
+        ensures unchanged { OnErr result (self.new ≡ self.old) }
     {
         let copy = name.copy(alloc)?;
         if self.get(name).is_some() {

@@ -65,7 +65,8 @@ pub trait Files {
     /// The name of the last load that failed.
     ghost failed: { Self → Option (List ℕ) };
 
-    /// The content of the file, of at most 2 ^ 24 bytes where it is told. A file that is missing fails.
+    /// The content of the file of this name, of at most 2 ^ 24 bytes. Which names no file has, and what then comes, is
+    /// up to the files.
     fn load(&mut self, alloc: Global, name: &Name) -> Result<Vec<u8>, LoadFault>
         ensures held { held self.new ≡ held self.old }
         ensures told { IfSome (held self.old name.now) (λ content. Loads content result) }

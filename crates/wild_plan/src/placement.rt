@@ -4,12 +4,12 @@ ghost use Rattle.std.specs.Prelude.{◌≡◌, ◌<◌, length, slice_get, Some,
 ghost use Rattle.wild_plan_spec.specs.Text.{plan_text};
 ghost use Rattle.wild_plan_spec.specs.declared.placed.RowNames.{RowNames};
 
-use crate::text::lines_text;
 use sqlite_items::Items;
 use std::alloc::Global;
 use std::marker::Model;
 use wild_base::{Name, NoMemory};
 use wild_plan_spec::{PlacedInput, PlacedSection, RowNames};
+use wild_plan_text::lines_text;
 use wild_script::LinkerScript;
 
 /// A plan: the tree of its script, and what it lists.

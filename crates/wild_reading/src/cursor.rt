@@ -54,12 +54,14 @@ impl<'a> Model for Token<'a> {
 }
 
 impl<'a> Token<'a> {
+    /// The bytes of the token, without its quotes.
     pub fn content(&self) -> &'a [u8]
         ensures { result.now ≡ self.now.content }
     {
         self.content
     }
 
+    /// Whether it stands in quotes.
     pub fn is_quoted(&self) -> bool
         ensures { result ≡ self.now.quoted }
     {
@@ -84,6 +86,7 @@ impl<'a> Cursor<'a> {
         }
     }
 
+    /// How many bytes stand before the cursor.
     #[tactic(auto, using(crate::proofs::Readers::here_only))]
     pub fn position(&self) -> usize
         ensures read { IsOnly readers.here self.now result self.now }
@@ -99,12 +102,14 @@ impl<'a> Cursor<'a> {
         self.at
     }
 
+    /// Whether this byte is the next one.
     pub fn begins(&self, byte: u8) -> bool
         ensures { result ≡ spec.begins byte self.now.text.bytes self.now.at }
     {
         lex::begins(self.bytes, self.at, byte)
     }
 
+    /// Whether no byte is ahead.
     pub fn is_end(&self) -> bool
         ensures { result ≡ spec.is_end self.now.text.bytes self.now.at }
     {

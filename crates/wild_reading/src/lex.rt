@@ -125,6 +125,7 @@ pub fn begins(bytes: &[u8], at: usize, byte: u8) -> bool
     }
 }
 
+/// Whether a position is the end of the bytes.
 #[tactic(auto, unfolding(crate::specs::Bytes::is_end))]
 pub fn is_end(bytes: &[u8], at: usize) -> bool
     ensures { result ≡ spec.is_end bytes.now at }
@@ -182,6 +183,7 @@ pub fn after_line(bytes: &[u8], at: usize) -> Option<usize>
     }
 }
 
+/// Whether neither a line nor a comment begins at a position.
 #[tactic(auto, unfolding(crate::specs::Lex::ends_gap))]
 pub fn ends_gap(bytes: &[u8], at: usize) -> bool
     ensures { result ≡ lexis.ends_gap bytes.now at }

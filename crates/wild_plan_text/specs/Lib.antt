@@ -1,0 +1,2 @@
+pub use Rattle.wild_plan_spec.specs.FaultText
+pub use Rattle.wild_plan_spec.specs.Text
