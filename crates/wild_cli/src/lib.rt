@@ -20,3 +20,6 @@ pub use running::run;
 pub use sure::{ShelfFile, SureShelf, SureTray};
 pub use table::{TableFault, read_table};
 pub use words::{Request, WordsFault, read_words};
+
+#[cfg(test)]
+mod tests;
