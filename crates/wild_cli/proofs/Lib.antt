@@ -1,5 +1,7 @@
+pub mod Endings
 pub mod Fields
 pub mod Numbers
 pub mod Records
 pub mod Rows
 pub mod Streams
+pub mod Statuses

@@ -3,7 +3,7 @@ use Rattle.std.proofs.Common.{◌≡◌, ◌∙◌, sym, ap, refl, subst, ℕ, �
 use Rattle.std.proofs.Math.Seq.{take-add}
 use Rattle.std.proofs.lemmas.List.{take_rest}
 use Rattle.std.specs.Io.KnownBytes.{Appends, Keeps, Consumes, IsAtEnd}
-use Rattle.wild_cli.specs.Device.{Got, GotPrefix, max_length}
+use Rattle.wild_cli.specs.Device.{Got, max_length}
 
 -- nothing is put yet
 pub got_none : (a : Option (List ℕ)) → Got a a []

@@ -1,5 +1,5 @@
 -- What the parts of a run answer.
-use Rattle.std.specs.Prelude.{◌≡◌, ◌<◌, ◌≤◌, ℕ, List, length, Option, Some, None, Result, Ok, Err, Vec, ⊤}
+use Rattle.std.specs.Prelude.{◌≡◌, ◌<◌, ◌≤◌, ℕ, List, length, Option, Some, IfSome, Result, Ok, Err, Vec, ⊤}
 use Rattle.std.specs.declared.alloc.Global.{Global}
 use Rattle.wild_plan_spec.specs.declared.row.InputRow.{InputRow}
 use Rattle.wild_plan_spec.specs.Fit.{IsThePlan, IsTheFault}
@@ -26,8 +26,7 @@ Plans script rows (Err why) = PlanRefused script rows why
 
 -- the content of a file of this name, or a refusal, and what the counts then show
 abbrev pub LoadRefused : Name → Option (List ℕ) → r.Refusal → Type 0
-LoadRefused name None (TooLong other) = other ≡ name
-LoadRefused name (Some content) (TooLong other) = (other ≡ name) × (max_length < length content)
+LoadRefused name content (TooLong other) = (other ≡ name) × IfSome content (λ bytes. max_length < length bytes)
 LoadRefused name content (NotLoaded other) = other ≡ name
 LoadRefused name content NoMemory = ⊤
 LoadRefused name content Usage = ⊥
@@ -35,8 +34,7 @@ LoadRefused name content (Fault fault) = ⊥
 LoadRefused name content (BadRecord index) = ⊥
 
 abbrev pub LoadTold : Option (List ℕ) → List ℕ → Type 0
-LoadTold None bytes = ⊤
-LoadTold (Some content) bytes = (bytes ≡ content) × (length content ≤ max_length)
+LoadTold content bytes = IfSome content (λ told. (bytes ≡ told) × (length told ≤ max_length))
 
 abbrev pub LoadsFile : Name → Option (List ℕ) → Result (Vec ℕ Global) r.Refusal → Type 0
 LoadsFile name content (Ok bytes) = LoadTold content bytes.items

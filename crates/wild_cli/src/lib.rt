@@ -6,7 +6,7 @@ mod flags;
 mod number;
 mod real;
 mod refusal;
-mod run;
+mod running;
 mod sure;
 mod table;
 mod words;
@@ -16,7 +16,10 @@ pub use flags::read_flags;
 pub use number::read_number;
 pub use real::{DirFiles, StreamSink};
 pub use refusal::Refusal;
-pub use run::run;
+pub use running::run;
 pub use sure::{ShelfFile, SureShelf, SureTray};
 pub use table::{TableFault, read_table};
 pub use words::{Request, WordsFault, read_words};
+
+#[cfg(test)]
+mod tests;

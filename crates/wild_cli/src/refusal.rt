@@ -95,7 +95,8 @@ impl Refusal {
     }
 }
 
-const USAGE: &[u8] = b"usage: plan SCRIPT TABLE [--kind=K] [--arch=A] [--endian=E] [--headers=N] [--start=NAME=N] | sample N\n";
+const USAGE: &[u8] =
+    b"usage: plan SCRIPT TABLE [--kind=K] [--arch=A] [--endian=E] [--headers=N] [--start=NAME=N] | sample N\n";
 
 fn fault_line(alloc: Global, fault: &Fault) -> Result<Name, NoMemory>
     ensures { IfOk result (λ line. line ≡ fault_text fault.now ++ 10 ∷ []) }

@@ -1,0 +1,153 @@
+use crate::{
+    DirFiles, Files, LoadFault, Refusal, ShelfFile, Sink, SinkFault, StreamSink, SureShelf,
+    SureTray, read_number, run,
+};
+use std::alloc::Global;
+use std::fs;
+use std::test::Fail;
+use wild_base::{Fault, Name, NoMemory};
+
+const USAGE: &[u8] =
+    b"usage: plan SCRIPT TABLE [--kind=K] [--arch=A] [--endian=E] [--headers=N] [--start=NAME=N] | sample N\n";
+
+fn names(alloc: Global, words: &[&[u8]]) -> Result<Vec<Name>, NoMemory> {
+    let mut names = Vec::new(alloc);
+    for word in words {
+        names.push(Name::new(alloc, word)?)?;
+    }
+    Ok(names)
+}
+
+// A table in memory, of the name `t`. Any other file is empty.
+fn shelf(alloc: Global, table: &[u8]) -> Result<SureShelf, NoMemory> {
+    let mut files = Vec::new(alloc);
+    files.push(ShelfFile {
+        name: Name::new(alloc, b"t")?,
+        bytes: Name::new(alloc, table)?,
+    })?;
+    Ok(SureShelf::new(files))
+}
+
+#[test]
+fn runs(rt: HostRuntime) -> Result<(), Fail> {
+    let alloc = rt.alloc();
+    let cases: [(&[&[u8]], &[u8], u8, &[u8]); 5] = [
+        (&[], b"", 2, USAGE),
+        (&[b"plan", b"s"], b"", 2, USAGE),
+        (&[b"plan", b"s", b"t", b"t"], b"", 2, USAGE),
+        (
+            &[b"plan", b"s", b"t"],
+            b"section,f.o,.a,3,2,A\nsection,f.o,.a,3,2\n",
+            6,
+            b"bad record 1\n",
+        ),
+        (
+            &[b"plan", b"s", b"t"],
+            b"section,f.o,.a,3,2,AA\n",
+            6,
+            b"bad record 0\n",
+        ),
+    ];
+    for (words, table, status, line) in cases {
+        let words = names(alloc, words)?;
+        let mut files = shelf(alloc, table)?;
+        let mut out = SureTray::new(alloc);
+        let mut err = SureTray::new(alloc);
+        let answer = run(alloc, words.as_slice(), &mut files, &mut out, &mut err);
+        assert_eq!(rt; answer, status);
+        assert_eq!(rt; out.bytes(), b"".as_slice());
+        assert_eq!(rt; err.bytes(), line);
+    }
+    Ok(())
+}
+
+#[test]
+fn lines(rt: HostRuntime) -> Result<(), Fail> {
+    let alloc = rt.alloc();
+    let cases: [(Refusal, u8, &[u8]); 6] = [
+        (
+            Refusal::Fault(Fault::BadRow { row: 2 }),
+            1,
+            b"fault 5 BadRow row=2\n",
+        ),
+        (Refusal::Usage, 2, USAGE),
+        (
+            Refusal::NotLoaded(Name::new(alloc, b"a b")?),
+            3,
+            b"cannot load a\\x20b\n",
+        ),
+        (Refusal::NoMemory, 5, b"out of memory\n"),
+        (Refusal::BadRecord(10), 6, b"bad record 10\n"),
+        (Refusal::TooLong(Name::new(alloc, b"")?), 7, b"too long -\n"),
+    ];
+    for (refusal, status, line) in &cases {
+        assert_eq!(rt; refusal.status(), *status);
+        assert_eq!(rt; refusal.line(alloc)?.bytes(), *line);
+    }
+    Ok(())
+}
+
+#[test]
+fn numbers(rt: HostRuntime) -> Result<(), Fail> {
+    let cases: [(&[u8], Option<u64>); 12] = [
+        (b"0", Some(0)),
+        (b"00", None),
+        (b"010", None),
+        (b"0x10", Some(16)),
+        (b"0xfF", Some(255)),
+        (b"0X1", None),
+        (b"+1", None),
+        (b"", None),
+        (b"18446744073709551615", Some(u64::MAX)),
+        (b"18446744073709551616", None),
+        (b"0x", None),
+        (b"0x00000000000000000001", Some(1)),
+    ];
+    for (bytes, number) in cases {
+        assert_eq!(rt; read_number(bytes), number);
+    }
+    Ok(())
+}
+
+#[test]
+fn real_files(rt: HostRuntime) -> Result<(), Fail> {
+    let alloc = rt.alloc();
+    let path = "wild_cli_test_file";
+    fs::write(&rt, path, b"a\0\xff".as_slice())?;
+    let mut files = DirFiles::new(&rt);
+    let name = Name::new(alloc, path.as_bytes())?;
+    assert_eq!(rt; files.load(alloc, &name)?.as_slice(), b"a\0\xff".as_slice());
+    fs::remove_file(&rt, path)?;
+    for missing in [path.as_bytes(), b"\xff".as_slice(), b"a\0b"] {
+        let name = Name::new(alloc, missing)?;
+        assert_eq!(rt; files.load(alloc, &name).err(), Some(LoadFault::Failed));
+    }
+    let words = names(alloc, &[b"plan", path.as_bytes(), b"t"])?;
+    let mut out = SureTray::new(alloc);
+    let mut err = SureTray::new(alloc);
+    let status = run(alloc, words.as_slice(), &mut files, &mut out, &mut err);
+    assert_eq!(rt; status, 3);
+    assert_eq!(rt; err.bytes(), b"cannot load wild_cli_test_file\n".as_slice());
+    Ok(())
+}
+
+#[test]
+fn real_streams(rt: HostRuntime) -> Result<(), Fail> {
+    let alloc = rt.alloc();
+    let path = "wild_cli_test_stream";
+    let mut sink = StreamSink::new(fs::create(&rt, path)?);
+    sink.put(b"one\n")?;
+    sink.put(b"")?;
+    sink.put(b"two\n")?;
+    drop(sink);
+    assert_eq!(rt; fs::read(&rt, path)?.as_slice(), b"one\ntwo\n".as_slice());
+    fs::remove_file(&rt, path)?;
+    if let Ok(full) = fs::create(&rt, "/dev/full") {
+        let mut err = StreamSink::new(full);
+        assert_eq!(rt; err.put(b"one"), Err(SinkFault::Failed));
+        let mut out = SureTray::new(alloc);
+        let mut files = shelf(alloc, b"")?;
+        assert_eq!(rt; run(alloc, &[], &mut files, &mut out, &mut err), 4);
+    }
+    Ok(())
+}
