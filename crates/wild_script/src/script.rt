@@ -11,10 +11,7 @@ use std::alloc::Global;
 use wild_reading::{Cursor, Stop, read_until};
 
 #[tactic(auto, unfolding(crate::specs::Tree::section_statements))]
-fn section_statements(
-    cursor: &mut Cursor<'_>,
-    alloc: Global,
-) -> Result<Items<SectionCommand>, Stop>
+fn section_statements(cursor: &mut Cursor<'_>, alloc: Global) -> Result<Items<SectionCommand>, Stop>
     ensures { Answers spec.section_statements cursor.old cursor.new result }
 {
     read_until(cursor, alloc, b'}')

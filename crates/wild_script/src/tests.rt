@@ -58,15 +58,15 @@ fn outlines(rt: HostRuntime) -> Result<(), Fail> {
             b"SECTIONS { .a : { *(.a .b) *(.c) } .d : { *(.d) } }",
             ".a:(.a .b )(.c );.d:(.d );.",
         ),
-        (
-            b"SECTIONS{.a:{*(.a);*(.b)},.b:{\"*\"()}}",
-            "syntax 12",
-        ),
+        (b"SECTIONS{.a:{*(.a);*(.b)},.b:{\"*\"()}}", "syntax 12"),
         (
             b"SECTIONS{.a :{*(.a);*(.b)},.b :{\"*\"()}}",
             ".a:(.a )(.b );.b:();.",
         ),
-        (b"SECTIONS { .a : { * /* x */ ( .a(b/ ) } }", ".a:(.a(b/ );."),
+        (
+            b"SECTIONS { .a : { * /* x */ ( .a(b/ ) } }",
+            ".a:(.a(b/ );.",
+        ),
         (b"SECTIONS { \"a b\" : { } }", "a b:;."),
         (b"SECTIONS", "syntax 8"),
         (b"# no newline", "syntax 1"),
