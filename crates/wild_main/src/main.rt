@@ -1,6 +1,9 @@
 //! Plans the sections of a link, by a linker script and a table of input sections.
 #![tactic(auto)]
 
+ghost use Rattle.std.specs.Prelude.{◌≡◌, IfOk, map, string_bytes};
+ghost use Rattle.std.specs.Vec.Iter.{into_iter_items};
+
 use std::alloc::{AllocError, Global};
 use std::process::ExitCode;
 use std::{env, io};
@@ -15,10 +18,12 @@ const NO_WORDS: u8 = 9;
 
 fn main(rt: HostRuntime) -> ExitCode {
     let alloc = rt.alloc();
-    let args = match env::args(&rt) {
+    let mut args = match env::args(&rt) {
         Ok(args) => args,
         Err(error) => return ExitCode::from(status_without_args(&error)),
     };
+    // The first is the program's name.
+    args.next();
     let Ok(words) = words_of(alloc, args) else {
         return ExitCode::from(NO_MEMORY);
     };
@@ -36,10 +41,12 @@ fn status_without_args(error: &io::Error) -> u8 {
     }
 }
 
-// The words behind the program's name.
-fn words_of(alloc: Global, args: env::Args) -> Result<Vec<Name>, AllocError> {
+/// The words as names. Fails where memory runs out.
+fn words_of(alloc: Global, args: env::Args) -> Result<Vec<Name>, AllocError>
+    ensures { IfOk result (λ words. words.items ≡ map string_bytes (into_iter_items args)) }
+{
     let mut words = Vec::new(alloc);
-    for word in args.skip(1) {
+    for word in args {
         words.push(Name::from_vec(word.into_bytes()))?;
     }
     Ok(words)
