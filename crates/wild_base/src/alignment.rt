@@ -1,6 +1,6 @@
 //! Powers of two that an address is rounded up to.
 
-ghost use Rattle.std.specs.Prelude.{◌≡◌, ℕ, ◌-◌, ◌%◌, ◌^◌, ◌<◌, ◌≤◌, MatchOption, SomeIff};
+ghost use Rattle.std.specs.Prelude.{◌≡◌, ℕ, ◌-◌, ◌%◌, ◌^◌, ◌<◌, ◌≤◌, MatchOption, Some, SomeIff, decimal};
 ghost use Rattle.std.specs.Result.{result_ok};
 ghost use Rattle.wild_base.specs.Alignment.{rounded_up, exponent_of, IsLeastMultiple, NewAlignment};
 
@@ -81,6 +81,8 @@ impl Default for Alignment {
 }
 
 impl fmt::Display for Alignment {
+    ghost output = { λ a. Some (decimal (2 ^ a)) };
+
     fn fmt<W: fmt::Write>(&self, f: &mut fmt::Formatter<W>) -> fmt::Result {
         let value = self.value();
         write!(f, "{value}")

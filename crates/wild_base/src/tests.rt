@@ -31,6 +31,8 @@ fn multiples(rt: HostRuntime) -> Result<(), Fail> {
         assert_eq!(rt; alignment.try_align_up(value), wanted);
     }
     assert_eq!(rt; alignment::PLT.mask(), 15);
+    let plt = alignment::PLT;
+    assert_eq!(rt; format!(in rt.alloc(); "{plt}")?.as_str(), "16");
     Ok(())
 }
 
