@@ -1,5 +1,5 @@
 -- What alignments mean.
-use Rattle.std.specs.Prelude.{◌≡◌, ◌≢◌, ℕ, ◌+◌, ◌%◌, ◌^◌, ◌<◌, ◌≤◌, ◌==◌, Option, Result, Ok, Err}
+use Rattle.std.specs.Prelude.{◌≡◌, ◌≢◌, ℕ, ◌%◌, ◌^◌, ◌<◌, ◌≤◌, ◌==◌, Option, Result, Ok, Err}
 use Rattle.std.specs.Int.{next_multiple_of}
 use Rattle.std.specs.List.{find, range_with_len}
 use Rattle.wild_base.specs.declared.alignment.AlignmentFault.{AlignmentFault}

@@ -1,5 +1,5 @@
 -- What the parts of a plan answer makes what the whole answers.
-use Rattle.std.proofs.Common.{◌≡◌, ◌∙◌, ◌⊎◌, ℕ, List, [], length, Some, None, refl, sym, ap, subst, inl, inr, ⊎_elim}
+use Rattle.std.proofs.Common.{◌≡◌, ◌∙◌, ℕ, List, [], length, None, refl, sym, ap, subst, inl, inr, ⊎_elim}
 use Rattle.std.proofs.Math.Path.{fun_ext}
 use Rattle.std.specs.List.{filter}
 use Rattle.wild_base.specs.declared.fault.Fault.{Fault}
@@ -12,15 +12,15 @@ use Rattle.wild_plan_spec.specs.declared.chunk.ChunkRow.{ChunkRow}
 use Rattle.wild_plan_spec.specs.declared.chunk.Place.{Place}
 use Rattle.wild_plan_spec.specs.declared.row.InputRow.{InputRow}
 use Rattle.wild_plan_spec.specs.Rules.{Rule, sections_of, rules_of}
-use Rattle.wild_plan_spec.specs.Chunks.{is_of, rows_in, largest_alignment, section_rows}
+use Rattle.wild_plan_spec.specs.Chunks.{is_of, largest_alignment}
 use Rattle.wild_plan_spec.specs.Checks.{row_checks, name_checks, support_checks, checks, failing}
 use Rattle.wild_plan_spec.specs.Order.{IsOrdered, stands_before}
 use Rattle.wild_plan_spec.specs.Places.{all_places, places_of}
 use Rattle.wild_plan_spec.specs.Walk.{Stands, Refuses}
 use Rattle.wild_plan_spec.specs.Line.{State}
 use Rattle.wild_plan_spec.specs.Known.{Known}
-use Rattle.wild_plan_spec.specs.Layout.{Layout, layout, placed_sections, row_names}
-use Rattle.wild_plan_spec.specs.Fit.{AreOrdered, section_alignment, Fits, LayoutFault, FaultIn, IsPlan, IsLaterFault, IsThePlan, IsTheFault}
+use Rattle.wild_plan_spec.specs.Layout.{Layout, placed_sections, row_names}
+use Rattle.wild_plan_spec.specs.Fit.{AreOrdered, section_alignment, Fits, FaultIn, IsPlan, IsLaterFault, IsThePlan, IsTheFault}
 use Rattle.wild_plan_spec.proofs.Unique.{plans_once, plan_or_fault, faults_once}
 use Rattle.wild_plan.specs.declared.planning.Checked.{Checked}
 use Rattle.wild_plan.specs.declared.planning.Lists.{Lists}
@@ -30,7 +30,7 @@ use Rattle.wild_plan.specs.Listed.{sections_by}
 use Rattle.wild_plan.specs.Passes.{IsWanted}
 use Rattle.wild_plan.specs.Pointed.{pointed}
 use Rattle.wild_plan.specs.Traits.{traits_of}
-use Rattle.wild_plan.specs.With.{AreChunks, kept_with, section_rows_with, placed_with}
+use Rattle.wild_plan.specs.With.{section_rows_with, placed_with}
 use Rattle.wild_plan.proofs.Failing.{checks_hold, row_fails, name_fails, support_fails}
 use Rattle.wild_plan.proofs.Listed.{sections_same}
 use Rattle.wild_plan.proofs.WithRules.{section_rows_by_rules, kept_by_rules, placed_by_rules}

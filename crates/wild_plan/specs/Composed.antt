@@ -1,5 +1,5 @@
 -- What the checks of a script and its layout answer, by its sections and by the chunk of each row.
-use Rattle.std.specs.Prelude.{◌≡◌, ◌⊎◌, ℕ, List, [], ◌++◌, None, length}
+use Rattle.std.specs.Prelude.{◌≡◌, ℕ, List, None, length}
 use Rattle.std.specs.List.{filter}
 use Rattle.wild_base.specs.declared.fault.Fault.{Fault}
 use Rattle.wild_script.specs.declared.tree.LinkerScript.{LinkerScript}
@@ -15,7 +15,6 @@ use Rattle.wild_plan_spec.specs.Places.{all_places}
 use Rattle.wild_plan_spec.specs.Line.{State}
 use Rattle.wild_plan_spec.specs.Walk.{Stands, Refuses}
 use Rattle.wild_plan_spec.specs.Layout.{row_names}
-use Rattle.wild_plan_spec.specs.Fit.{Fits, FaultIn}
 use Rattle.wild_plan.specs.declared.planning.Checked.{Checked}
 use Rattle.wild_plan.specs.declared.planning.Lists.{Lists}
 use Rattle.wild_plan.specs.declared.traits.Traits.{Traits}

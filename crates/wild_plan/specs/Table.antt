@@ -3,7 +3,7 @@ use Rattle.std.specs.Prelude.{ℕ, Option}
 use Rattle.std.specs.Ordering.{nat_cmp}
 use Rattle.std.specs.BTreeMap.{BTreeMap, get}
 use Rattle.wild_plan.specs.declared.table.Table.{Table}
-use Rattle.wild_plan_spec.specs.Known.{Entry, Start, Load, End, Address, Known}
+use Rattle.wild_plan_spec.specs.Known.{Start, Load, End, Address, Known}
 
 -- what a map knows at an index
 abbrev pub known_at : BTreeMap ℕ ℕ → ℕ → Option ℕ

@@ -1,5 +1,5 @@
 -- One plan fits, or one fault stands there.
-use Rattle.std.proofs.Common.{◌≡◌, ◌∙◌, ◌⊎◌, ℕ, List, length, Some, None, refl, sym, ap, subst, inl, inr, ⊎_elim}
+use Rattle.std.proofs.Common.{◌≡◌, ◌∙◌, List, length, sym, ap, subst, inl, inr}
 use Rattle.std.proofs.Math.Path.{fun_ext}
 use Rattle.wild_base.specs.declared.fault.Fault.{Fault}
 use Rattle.wild_script.specs.declared.tree.LinkerScript.{LinkerScript}

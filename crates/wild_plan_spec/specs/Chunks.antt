@@ -1,5 +1,5 @@
 -- The rows of chunks and of sections.
-use Rattle.std.specs.Prelude.{ℕ, ◌+◌, ◌==◌, ◌&&◌, Bool, true, false, List, [], ◌∷◌, Option, Some, None, if◌then◌else◌, max}
+use Rattle.std.specs.Prelude.{ℕ, ◌+◌, ◌==◌, ◌&&◌, Bool, false, List, [], ◌∷◌, Option, Some, None, if◌then◌else◌, max}
 use Rattle.std.specs.Option.{unwrap_or}
 use Rattle.std.specs.List.{cons_option, filter}
 use Rattle.wild_base.specs.Alignment.{exponent_of}

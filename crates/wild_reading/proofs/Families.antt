@@ -1,9 +1,9 @@
 -- What readers by a key answer, and folds.
-use Rattle.std.proofs.Common.{◌≡◌, ℕ, zero, suc, ◌≤◌, ◌<◌, Bool, true, false, length, refl, sym, ◌∙◌, subst, arith}
-use Rattle.wild_reading.specs.Place.{Bytes, Place, IsPaid, mark_count, ahead}
+use Rattle.std.proofs.Common.{◌≡◌, ℕ, zero, suc, ◌≤◌, ◌<◌, Bool, true, false, refl, sym, ◌∙◌, subst, arith}
+use Rattle.wild_reading.specs.Place.{Bytes, Place, ahead}
 use Rattle.wild_reading.specs.Reader.{Reader, Then, Choice, yes, no}
-use Rattle.wild_reading.specs.Family.{levels, InsideAt, HasRoom, room, Fold, done, next, Folds}
-use Rattle.wild_reading.specs.Only.{IsOnly, Refuses, IsSyntax, IsCause, IsTooDeep}
+use Rattle.wild_reading.specs.Family.{levels, InsideAt, room, Fold, done, next, Folds}
+use Rattle.wild_reading.specs.Only.{IsOnly, Refuses, IsTooDeep}
 use Rattle.wild_reading.specs.declared.stop.Stop.{Stop}
 use Rattle.wild_reading.specs.declared.stop.Stop.TheVariants.{TooDeep}
 use Rattle.wild_reading.proofs.Readers.{IsInner, moved, cause_same, bytes_same}

@@ -1,6 +1,6 @@
 -- A place further on has less ahead, and no fewer marks behind it.
 use Rattle.std.proofs.Common.{◌≡◌, ℕ, ◌≤◌, ◌<◌, ◌+◌, length, arith, true, None}
-use Rattle.wild_reading.specs.Place.{Bytes, Text, Place, ahead, mark_count}
+use Rattle.wild_reading.specs.Place.{Bytes, Text, ahead, mark_count}
 use Rattle.wild_reading.specs.Bytes.{begins_comment}
 use Rattle.wild_reading.specs.Lex.{after_close}
 use Rattle.wild_reading.specs.Only.{IsOpenComment}

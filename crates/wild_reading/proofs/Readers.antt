@@ -1,11 +1,11 @@
 -- What is read by a composed reader, from what its parts read.
-use Rattle.std.proofs.Common.{◌≡◌, ℕ, zero, suc, ◌≤◌, ◌<◌, ◌+◌, Bool, true, false, List, [], ◌∷◌, ◌++◌, length, refl, sym, ◌∙◌, ap, subst, arith, append_assoc, append-nil}
+use Rattle.std.proofs.Common.{◌≡◌, ℕ, zero, suc, ◌≤◌, Bool, true, false, List, [], ◌∷◌, ◌++◌, length, refl, sym, ◌∙◌, ap, subst, arith, append_assoc, append-nil}
 use Rattle.std.specs.Prelude.{Option, Some, None, Result, Ok, Err}
 use Rattle.std.specs.Result.{IsErrAnd}
 use Rattle.std.proofs.lemmas.Result.{err_from_is_err_and}
 use Rattle.wild_reading.specs.Place.{Bytes, Text, Place, ahead}
-use Rattle.wild_reading.specs.Reader.{Reader, Then, Give, Here, here, Ahead, Nothing, Passes, Takes, Choice, yes, no, Until, none, more, level, Inside}
-use Rattle.wild_reading.specs.Only.{IsOnly, Refuses, Answers, IsFault, IsSyntax, IsCause, IsInside, IsFull, Enters, Leaves}
+use Rattle.wild_reading.specs.Reader.{Reader, Then, Give, here, Ahead, Nothing, Passes, Takes, Choice, yes, no, Until, none, more, level, Inside}
+use Rattle.wild_reading.specs.Only.{IsOnly, Refuses, Answers, IsFault, IsSyntax, IsCause, IsInside, IsFull, Leaves}
 use Rattle.wild_reading.specs.declared.stop.Stop.{Stop}
 use Rattle.wild_reading.specs.declared.stop.Stop.TheVariants.{Syntax, OpenComment, NestedSort, TooDeep, NoMemory}
 

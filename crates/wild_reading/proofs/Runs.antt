@@ -1,7 +1,6 @@
 -- A run ends one further, or here.
-use Rattle.std.proofs.Common.{◌≡◌, ◌<◌, ◌≤◌, ◌+◌, ℕ, Bool, true, false, List, length, get_or, drop, arith, ap}
-use Rattle.std.proofs.lemmas.List.Sums.{prefix_len-drop_yes, prefix_len-drop_no, prefix_len-drop_all, prefix_len-le-length}
-use Rattle.std.specs.List.{prefix_len}
+use Rattle.std.proofs.Common.{◌≡◌, ◌<◌, ◌≤◌, ◌+◌, ℕ, Bool, true, false, List, length, get_or, arith}
+use Rattle.std.proofs.lemmas.List.Sums.{prefix_len-drop_yes, prefix_len-drop_no, prefix_len-drop_all}
 use Rattle.wild_reading.specs.Bytes.{run_end}
 
 pub run_end-yes : (p : ℕ → Bool) (b : List ℕ) (i : ℕ) → i < length b → p (get_or b i 0) ≡ true → run_end p b i ≡ run_end p b (i + 1)

@@ -1,5 +1,5 @@
 -- What a function that reads answers.
-use Rattle.std.specs.Prelude.{◌≡◌, ℕ, suc, ◌+◌, ◌≤◌, ◌<◌, length, codes, None, true, Result, Ok, Err}
+use Rattle.std.specs.Prelude.{◌≡◌, ℕ, suc, ◌+◌, ◌≤◌, ◌<◌, length, codes, None, true, Result}
 use Rattle.std.specs.Result.{IfOk, IfErr}
 use Rattle.wild_reading.specs.Place.{Bytes, Text, Place, ahead, mark_count}
 use Rattle.wild_reading.specs.Bytes.{begins_with, begins_comment}

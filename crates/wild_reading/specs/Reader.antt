@@ -1,6 +1,6 @@
 -- What a grammar is made of. A reader relates bytes, a limit of depth and a position to a value that is read there, and
 -- to the position behind it.
-use Rattle.std.specs.Prelude.{◌≡◌, ℕ, zero, suc, Bool, true, false, List, [], ◌∷◌, Option, Some, None}
+use Rattle.std.specs.Prelude.{◌≡◌, ℕ, zero, suc, Bool, true, false, List, [], ◌∷◌, Option, Some}
 use Rattle.wild_reading.specs.Place.{Bytes}
 
 abbrev pub Reader : Type 0 → Type 1

@@ -1,13 +1,11 @@
 -- A script takes all of the bytes.
-use Rattle.std.proofs.Common.{◌≡◌, ◌⊎◌, ℕ, ◌+◌, ◌≤◌, true, List, length, subst, sym, ◌∙◌, ap, inl, inr, refl, arith}
+use Rattle.std.proofs.Common.{◌≡◌, ◌⊎◌, ℕ, ◌+◌, ◌≤◌, true, length, subst, sym, ◌∙◌, ap, inl, inr, refl, arith}
 use Rattle.std.proofs.lemmas.Bool.{eqb-true}
-use Rattle.wild_base.specs.declared.fault.Fault as f
 use Rattle.wild_base.specs.declared.fault.Fault.TheVariants as fault
 use Rattle.wild_reading.specs.Place as place
 use Rattle.wild_reading.specs.Place.{Bytes, Text, Place}
 use Rattle.wild_reading.specs.Bytes.{is_end}
-use Rattle.wild_reading.specs.Reader.{Until}
-use Rattle.wild_reading.specs.Only.{IsOnly, Refuses, Answers}
+use Rattle.wild_reading.specs.Only.{IsOnly, Refuses}
 use Rattle.wild_reading.specs.declared.stop.Stop.{Stop}
 use Rattle.wild_reading.specs.declared.stop.Stop.TheVariants.{Syntax, OpenComment, NestedSort, TooDeep, NoMemory}
 use Rattle.wild_reading.proofs.Readers.{until_ends}

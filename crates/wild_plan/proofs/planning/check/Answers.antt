@@ -1,7 +1,7 @@
 -- The parts of the checks, in their order.
-use Rattle.std.proofs.Common.{◌≡◌, ◌∙◌, ap}
+use Rattle.std.proofs.Common.{◌∙◌, ap}
 use Rattle.std.proofs.lemmas.Result.{err_from_is_err_and}
-use Rattle.wild_plan_spec.specs.Rules.{sections_of, rules_of, section_rules}
+use Rattle.wild_plan_spec.specs.Rules.{section_rules}
 use Rattle.wild_plan.specs.Pointed.{pointed}
 use Rattle.wild_plan.proofs.Composing.{rows_refused, names_refused, support_refused, all_hold}
 use Rattle.wild_plan.proofs.planning.check.Goals as goal

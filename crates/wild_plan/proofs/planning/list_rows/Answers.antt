@@ -1,5 +1,5 @@
 -- The parts of the layout, in their order.
-use Rattle.std.proofs.Common.{◌≡◌, ◌∙◌, sym, subst, inl, inr, ⊎_elim, List}
+use Rattle.std.proofs.Common.{◌∙◌, inl, inr, ⊎_elim}
 use Rattle.std.proofs.lemmas.Result.{err_from_is_err_and}
 use Rattle.wild_plan.specs.Chunks.{rows_at}
 use Rattle.wild_plan.specs.Pointed.{pointed}

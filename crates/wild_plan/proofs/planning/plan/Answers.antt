@@ -1,6 +1,6 @@
-use Rattle.std.proofs.Common.{◌≡◌, inl, inr, ⊎_elim}
+use Rattle.std.proofs.Common.{inl, inr, ⊎_elim}
 use Rattle.std.proofs.lemmas.Result.{err_from_is_err_and}
-use Rattle.wild_plan.proofs.Composing.{the_plan, the_fault, the_parse_fault}
+use Rattle.wild_plan.proofs.Composing.{the_plan, the_fault}
 use Rattle.wild_plan.proofs.planning.plan.Goals as goal
 
 pub returns-clause-fits : goal.returns-clause-fits

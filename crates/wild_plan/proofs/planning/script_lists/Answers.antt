@@ -1,6 +1,5 @@
-use Rattle.std.proofs.Common.{◌≡◌, inl, inr, ⊎_elim}
+use Rattle.std.proofs.Common.{inl, inr, ⊎_elim}
 use Rattle.std.proofs.lemmas.Result.{IfOk-weaker, IfErr-weaker}
-use Rattle.wild_plan.specs.Pointed.{pointed}
 use Rattle.wild_plan.proofs.Composing.{lists_fit, lists_refused}
 use Rattle.wild_plan.proofs.planning.script_lists.Goals as goal
 

@@ -1,5 +1,4 @@
 use Rattle.std.proofs.Common.{◌≡◌, true, arith, rules}
-use Rattle.wild_reading.specs.Place.{mark_count}
 use Rattle.wild_reading.specs.Bytes.{begins}
 use Rattle.wild_reading.proofs.Marks.{marked}
 use Rattle.wild_reading.proofs.cursor.Cursor.byte.Goals as goal

@@ -1,4 +1,4 @@
-use Rattle.std.proofs.Common.{arith, rules}
+use Rattle.std.proofs.Common.{arith}
 use Rattle.wild_reading.proofs.Readers.{answers_ok, answers_refused}
 use Rattle.wild_reading.proofs.Families.{room_only, room_refuses}
 use Rattle.wild_reading.proofs.cursor.Cursor.room.Goals as goal

@@ -1,6 +1,6 @@
 use Rattle.std.proofs.Common.{refl, sym}
 use Rattle.wild_reading.specs.Lex.{stretches}
-use Rattle.wild_reading.proofs.Readers.{until_step, until_only, until_refuses, bind_only, bind_refuses, give_only, answers_ok, answers_err}
+use Rattle.wild_reading.proofs.Readers.{until_step, until_refuses, bind_refuses, answers_err}
 use Rattle.wild_reading.proofs.cursor.Cursor.stretches.Goals as goal
 
 pub stretches-preserved : goal.stretches-preserved
