@@ -46,11 +46,11 @@ FailsWhere fails (Err load.NoMemory) = ⊤
 
 -- one load more
 abbrev pub loaded : OnShelf → OnShelf
-loaded shelf = record { files = shelf.files; failing = shelf.failing; calls = next_count shelf.calls; faults = shelf.faults; failed = shelf.failed }
+loaded shelf = record shelf { calls = next_count shelf.calls }
 
 -- one load more, of this name, which failed
 abbrev pub failed_load : OnShelf → List ℕ → OnShelf
-failed_load shelf name = record { files = shelf.files; failing = shelf.failing; calls = next_count shelf.calls; faults = next_count shelf.faults; failed = Some name }
+failed_load shelf name = record shelf { calls = next_count shelf.calls; faults = next_count shelf.faults; failed = Some name }
 
 -- the shelf behind a load that answered this
 abbrev pub after_load : OnShelf → List ℕ → Result (Vec ℕ Global) LoadFault → OnShelf
@@ -75,7 +75,7 @@ written_of (put ∷ puts) call = if put.call == call then Some put.written else 
 
 -- the tray behind one put more, which gave it these bytes and faults
 abbrev pub with_put : OnTray → List ℕ → ℕ → OnTray
-with_put tray bytes faults = record { bytes = tray.bytes ++ bytes; failing = tray.failing; calls = next_count tray.calls; faults = faults }
+with_put tray bytes faults = record tray { bytes = tray.bytes ++ bytes; calls = next_count tray.calls; faults = faults }
 
 -- a put that is to fail does so behind that many bytes at most, and no other fails, unless memory ran out
 abbrev pub AfterPut : OnTray → OnTray → List ℕ → Option ℕ → Result (Unit {0}) SinkFault → Type 0
