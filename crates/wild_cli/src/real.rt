@@ -2,6 +2,7 @@
 
 ghost use Rattle.std.specs.Prelude.{◌≡◌, ◌≤◌, vec_len, None, IfOk, IfSome};
 ghost use Rattle.wild_cli.specs.Device.{Rose, Loads, Puts, max_length};
+ghost use Rattle.wild_cli.specs.Shelf.{next_count};
 
 use crate::device::MAX_LENGTH;
 use crate::{Files, LoadFault, Sink, SinkFault};
@@ -49,11 +50,12 @@ impl<R: std::rt::Files> Files for DirFiles<R> {
     }
 }
 
-// One fault more.
-fn next_count(faults: u64) -> u64
-    ensures { Rose faults result }
+// One more, up to the end of the type.
+pub(crate) fn next_count(count: u64) -> u64
+    ensures rose { Rose count result }
+    ensures next { result ≡ next_count count }
 {
-    faults.saturating_add(1)
+    count.saturating_add(1)
 }
 
 fn load_path<R: std::rt::Files>(
