@@ -1,8 +1,9 @@
 -- Files and sinks in memory.
-use Rattle.std.specs.Prelude.{ℕ, ◌+◌, ◌-◌, ◌^◌, ◌≡◌, min, Bool, true, false, ◌||◌, ◌==◌, List, [], ◌∷◌, ◌++◌, take, Option, Some, None, is_none, unwrap_or, Result, Ok, Err, Vec, ⊤, if◌then◌else◌}
+use Rattle.std.specs.Prelude.{ℕ, ◌≡◌, Bool, true, false, ◌||◌, ◌==◌, List, [], ◌∷◌, ◌++◌, take, Option, Some, None, is_none, unwrap_or, Result, Ok, Err, Vec, ⊤, if◌then◌else◌}
 use Rattle.std.specs.List.{list_any}
 use Rattle.std.specs.Str.{bytes_eq}
 use Rattle.std.specs.declared.alloc.Global.{Global}
+use Rattle.wild_cli.specs.Device.{next_count}
 use Rattle.wild_cli.specs.declared.device.LoadFault.{LoadFault}
 use Rattle.wild_cli.specs.declared.device.LoadFault.TheVariants as load
 use Rattle.wild_cli.specs.declared.device.SinkFault.{SinkFault}
@@ -18,10 +19,6 @@ find_content (file ∷ files) name = if bytes_eq file.name name then Some file.b
 -- the same, or nothing
 abbrev pub content_of : List ShelfFile → List ℕ → List ℕ
 content_of files name = unwrap_or (find_content files name) []
-
--- one more, up to the end of the type
-abbrev pub next_count : ℕ → ℕ
-next_count n = min (n + 1) (2 ^ 64 - 1)
 
 -- ---- files of which chosen loads fail
 

@@ -5,7 +5,7 @@ ghost use Rattle.std.specs.List.{list_any};
 ghost use Rattle.wild_cli.specs.Device.{Loads, LoadCounts, Puts, SinkCounts};
 ghost use Rattle.wild_cli.specs.Shelf.{find_content, load_fails, FailsWhere, after_load, written_of, AfterPut};
 
-use crate::real::next_count;
+use crate::device::next_count;
 use crate::sure::{find_content, load_content};
 use crate::{Files, LoadFault, ShelfFile, Sink, SinkFault};
 use std::alloc::Global;
