@@ -5,3 +5,4 @@ pub mod Records
 pub mod Rows
 pub mod Streams
 pub mod Statuses
+pub mod Unfailing

@@ -6,9 +6,18 @@ use Rattle.wild_cli.specs.declared.device.LoadFault.TheVariants as load
 use Rattle.wild_cli.specs.declared.device.SinkFault.{SinkFault}
 use Rattle.wild_cli.specs.declared.device.SinkFault.TheVariants as sink
 
+-- one more, up to the end of the type
+abbrev pub next_count : ℕ → ℕ
+next_count n = min (n + 1) (2 ^ 64 - 1)
+
 -- a count has risen, or stands at its type's end
 abbrev pub Rose : ℕ → ℕ → Type 0
-Rose before now = (before ≤ now) × (min (before + 1) (2 ^ 64 - 1) ≤ now)
+Rose before now = (before ≤ now) × (next_count before ≤ now)
+
+-- how many loads failed, and the name that failed last
+pub record Failures : Type 0 where
+  pub faults : ℕ
+  pub failed : Option (List ℕ)
 
 abbrev pub max_length : ℕ
 max_length = 2 ^ 24

@@ -1,7 +1,7 @@
 //! Where files come from and where texts go.
 
 ghost use Rattle.std.specs.Prelude.{◌≡◌, List, ℕ, Option, IfSome};
-ghost use Rattle.wild_cli.specs.Device.{Loads, LoadCounts, Puts, SinkCounts};
+ghost use Rattle.wild_cli.specs.Device.{Rose, next_count, Loads, LoadCounts, Puts, SinkCounts};
 ghost use Rattle.wild_cli.specs.declared.device.LoadFault.TheVariants as load;
 ghost use Rattle.wild_cli.specs.declared.device.SinkFault.TheVariants as sink;
 
@@ -85,4 +85,12 @@ pub trait Sink {
     fn put(&mut self, piece: &[u8]) -> Result<(), SinkFault>
         ensures got { Puts (got self.old) (got self.new) piece.now result }
         ensures cause { SinkCounts (faults self.old) (faults self.new) result };
+}
+
+// One more, up to the end of the type.
+pub(crate) fn next_count(count: u64) -> u64
+    ensures rose { Rose count result }
+    ensures next { result ≡ next_count count }
+{
+    count.saturating_add(1)
 }

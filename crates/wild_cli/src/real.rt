@@ -1,16 +1,18 @@
 //! Real files and streams. Nothing is told of what they hold.
 
 ghost use Rattle.std.specs.Prelude.{◌≡◌, ◌≤◌, vec_len, None, IfOk, IfSome};
-ghost use Rattle.wild_cli.specs.Device.{Rose, Loads, Puts, max_length};
+ghost use Rattle.wild_cli.specs.Device.{Loads, Puts, max_length};
 
-use crate::device::MAX_LENGTH;
+use crate::device::{MAX_LENGTH, next_count};
 use crate::{Files, LoadFault, Sink, SinkFault};
 use std::alloc::Global;
 use std::io::{Read, Write};
+use std::marker::Model;
 use std::{fs, str};
 use wild_base::Name;
 
-/// The files of the system, by their paths. A name that isn't UTF-8 fails.
+/// The files of the system, by their paths. A name that isn't UTF-8 fails. Contracts see how many loads failed, and the
+/// name that failed last.
 #[derive(Debug, Drop)]
 pub struct DirFiles<R> {
     runtime: R,
@@ -18,10 +20,18 @@ pub struct DirFiles<R> {
     failed: Option<Name>,
 }
 
+impl<R> Model for DirFiles<R> {
+    ghost use Rattle.wild_cli.specs.Device.{Failures};
+
+    ghost Value = { Failures };
+
+    ghost view = { λ files. record { faults = files.faults; failed = files.failed } };
+}
+
 impl<R> DirFiles<R> {
     /// No load has failed yet.
     pub fn new(runtime: R) -> DirFiles<R>
-        ensures { result ≡ record { runtime = runtime; faults = 0; failed = None } }
+        ensures { result ≡ record { faults = 0; failed = None } }
     {
         DirFiles {
             runtime,
@@ -47,13 +57,6 @@ impl<R: std::rt::Files> Files for DirFiles<R> {
         }
         loaded
     }
-}
-
-// One fault more.
-fn next_count(faults: u64) -> u64
-    ensures { Rose faults result }
-{
-    faults.saturating_add(1)
 }
 
 fn load_path<R: std::rt::Files>(
@@ -89,17 +92,25 @@ fn read_all<R: Read>(alloc: Global, reader: &mut R) -> Result<Vec<u8>, LoadFault
     Err(LoadFault::TooLong)
 }
 
-/// A stream of the system.
+/// A stream of the system. Contracts see how many puts failed.
 #[derive(Debug, Drop)]
 pub struct StreamSink<W> {
     stream: W,
     faults: u64,
 }
 
+impl<W> Model for StreamSink<W> {
+    ghost use Rattle.std.specs.Prelude.{ℕ};
+
+    ghost Value = { ℕ };
+
+    ghost view = { λ sink. sink.faults };
+}
+
 impl<W> StreamSink<W> {
     /// No put has failed yet.
     pub fn new(stream: W) -> StreamSink<W>
-        ensures { result ≡ record { stream = stream; faults = 0 } }
+        ensures { result ≡ 0 }
     {
         StreamSink { stream, faults: 0 }
     }
@@ -108,7 +119,7 @@ impl<W> StreamSink<W> {
 impl<W: Write> Sink for StreamSink<W> {
     ghost got = { λ sink. None };
 
-    ghost faults = { λ sink. sink.faults };
+    ghost faults = { λ sink. sink };
 
     fn put(&mut self, piece: &[u8]) -> Result<(), SinkFault> {
         let written = write_piece(&mut self.stream, piece);

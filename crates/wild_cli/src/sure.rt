@@ -1,9 +1,9 @@
 //! Files and a sink in memory that never fail.
 
-ghost use Rattle.std.specs.Prelude.{◌≡◌, ◌≢◌, [], Err, None, Some};
+ghost use Rattle.std.specs.Prelude.{◌≡◌, ◌≢◌, [], Err, None, Some, option_map};
 ghost use Rattle.std.specs.Str.{bytes_eq};
 ghost use Rattle.wild_cli.specs.Device.{Loads};
-ghost use Rattle.wild_cli.specs.Shelf.{content_of};
+ghost use Rattle.wild_cli.specs.Shelf.{content_of, find_content};
 ghost use Rattle.wild_cli.specs.declared.device.LoadFault.TheVariants as load;
 
 use crate::device::MAX_LENGTH;
@@ -61,20 +61,30 @@ fn same_name(a: &Name, b: &Name) -> bool
     a.bytes() == b.bytes()
 }
 
-// The content of the first file of the name.
+// The content of the first file of the name, or nothing.
 fn content_of<'a>(files: &'a [ShelfFile], name: &Name) -> &'a [u8]
     ensures { result.now ≡ content_of files.now name.now }
 {
+    match find_content(files, name) {
+        Some(content) => content,
+        None => &[],
+    }
+}
+
+// The content of the first file of the name, where one has it.
+pub(crate) fn find_content<'a>(files: &'a [ShelfFile], name: &Name) -> Option<&'a [u8]>
+    ensures { option_map (λ content. content.now) result ≡ find_content files.now name.now }
+{
     for file in files {
         if same_name(&file.name, name) {
-            return file.bytes.bytes();
+            return Some(file.bytes.bytes());
         }
     }
-    &[]
+    None
 }
 
 // A copy of the content, if a file may have it.
-fn load_content(alloc: Global, content: &[u8]) -> Result<Vec<u8>, LoadFault>
+pub(crate) fn load_content(alloc: Global, content: &[u8]) -> Result<Vec<u8>, LoadFault>
     ensures loads { Loads content.now result }
     ensures sure { result ≢ Err load.Failed }
 {

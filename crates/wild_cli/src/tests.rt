@@ -1,6 +1,6 @@
 use crate::{
-    DirFiles, Files, LoadFault, Refusal, ShelfFile, Sink, SinkFault, StreamSink, SureShelf,
-    SureTray, read_number, run,
+    DirFiles, FailingPut, Files, LoadFault, Refusal, Shelf, ShelfFile, Sink, SinkFault, StreamSink,
+    SureShelf, SureTray, Tray, read_number, run,
 };
 use std::alloc::Global;
 use std::fs;
@@ -149,5 +149,152 @@ fn real_streams(rt: HostRuntime) -> Result<(), Fail> {
         let mut files = shelf(alloc, b"")?;
         assert_eq!(rt; run(alloc, &[], &mut files, &mut out, &mut err), 4);
     }
+    Ok(())
+}
+
+// A script `s` and a table `t` in memory.
+fn two_files(alloc: Global, script: Name, table: &[u8]) -> Result<Vec<ShelfFile>, NoMemory> {
+    let mut files = Vec::new(alloc);
+    files.push(ShelfFile {
+        name: Name::new(alloc, b"s")?,
+        bytes: script,
+    })?;
+    files.push(ShelfFile {
+        name: Name::new(alloc, b"t")?,
+        bytes: Name::new(alloc, table)?,
+    })?;
+    Ok(files)
+}
+
+// A tray whose first put fails behind this many bytes, where there is a number.
+fn tray(alloc: Global, written: Option<usize>) -> Result<Tray, NoMemory> {
+    let mut failing = Vec::new(alloc);
+    if let Some(written) = written {
+        failing.push(FailingPut { call: 0, written })?;
+    }
+    Ok(Tray::new(alloc, failing))
+}
+
+#[test]
+fn failing_calls(rt: HostRuntime) -> Result<(), Fail> {
+    let alloc = rt.alloc();
+    let cases: [(&[&[u8]], &[u64], [Option<usize>; 2], u8, &[u8], &[u8]); 4] = [
+        (
+            &[b"plan", b"s", b"t"],
+            &[1],
+            [None, None],
+            3,
+            b"",
+            b"cannot load t\n",
+        ),
+        (
+            &[b"plan", b"x", b"t"],
+            &[],
+            [None, None],
+            3,
+            b"",
+            b"cannot load x\n",
+        ),
+        (
+            &[b"plan", b"s", b"t"],
+            &[],
+            [Some(5), None],
+            4,
+            b"secti",
+            b"",
+        ),
+        (&[], &[], [None, Some(3)], 4, b"", b"usa"),
+    ];
+    for (words, loads, puts, status, text, line) in cases {
+        let words = names(alloc, words)?;
+        let script = Name::new(alloc, b"SECTIONS { .a : { *(.a) } }")?;
+        let files = two_files(alloc, script, b"section,f.o,.a,1,1,A\n")?;
+        let mut files = Shelf::new(files, Vec::from_slice(alloc, loads)?);
+        let mut out = tray(alloc, puts[0])?;
+        let mut err = tray(alloc, puts[1])?;
+        let answer = run(alloc, words.as_slice(), &mut files, &mut out, &mut err);
+        assert_eq!(rt; answer, status);
+        assert_eq!(rt; out.bytes(), text);
+        assert_eq!(rt; err.bytes(), line);
+    }
+    Ok(())
+}
+
+const PLAN: &[u8] = b"section .a 0x0000000000000000 0x0000000000000000 0x0000000000000010 8 A - - -
+section .d 0x0000000000000010 0x0000000000000010 0x0000000000000005 1 AX - - -
+input 0 0x0000000000000004 .a f.o .a
+input 1 0x0000000000000008 .a f.o .c
+input 2 0x0000000000000000 .a f.o .b
+input 3 0x0000000000000010 .d f.o .d
+";
+
+#[test]
+fn plans(rt: HostRuntime) -> Result<(), Fail> {
+    let alloc = rt.alloc();
+    let cases: [(&[u8], &[u8], u8, &[u8], &[u8]); 7] = [
+        (
+            b"SECTIONS { .a : { *(.a .b) *(.c) } .d : { *(.d) } }",
+            b"section,f.o,.a,3,2,A\nsection,f.o,.c,4,8,A\nsection,f.o,.b,1,4,A\nsection,f.o,.d,5,1,AX\n",
+            0,
+            PLAN,
+            b"",
+        ),
+        (b"/*/", b"", 0, b"", b""),
+        (
+            b"SECTIONS { .a : { } .a : { } }",
+            b"",
+            1,
+            b"",
+            b"fault 14 DuplicateSection name=.a\n",
+        ),
+        (
+            b"SECTIONS { .a : { *(.a) } }",
+            b"section,f.o,.a,1,3,A\n",
+            1,
+            b"",
+            b"fault 5 BadRow row=0\n",
+        ),
+        (
+            b"SECTIONS { .a : { *(.a) } }",
+            b"section,f.o,.a,18446744073709551615,2,A\n",
+            1,
+            b"",
+            b"fault 35 AlignOverflow value=18446744073709551615 align=2\n",
+        ),
+        (
+            b"SECTIONS { .a : { *(.a) } }",
+            b"section,f.o,.z,1,1,A\n",
+            1,
+            b"",
+            b"fault 38 Unsupported index=0\n",
+        ),
+        (b"SECTIONS", b"", 1, b"", b"fault 1 Syntax position=8\n"),
+    ];
+    for (script, table, status, text, line) in cases {
+        let words = names(alloc, &[b"plan", b"s", b"t"])?;
+        let files = two_files(alloc, Name::new(alloc, script)?, table)?;
+        let mut files = Shelf::new(files, Vec::new(alloc));
+        let mut out = tray(alloc, None)?;
+        let mut err = tray(alloc, None)?;
+        let answer = run(alloc, words.as_slice(), &mut files, &mut out, &mut err);
+        assert_eq!(rt; answer, status);
+        assert_eq!(rt; out.bytes(), text);
+        assert_eq!(rt; err.bytes(), line);
+    }
+    Ok(())
+}
+
+#[test]
+fn long_script(rt: HostRuntime) -> Result<(), Fail> {
+    let alloc = rt.alloc();
+    let script = Name::from_vec(Vec::from_elem(alloc, b' ', (1 << 24) + 1)?);
+    let words = names(alloc, &[b"plan", b"s", b"t"])?;
+    let mut files = Shelf::new(two_files(alloc, script, b"")?, Vec::new(alloc));
+    let mut out = tray(alloc, None)?;
+    let mut err = tray(alloc, None)?;
+    let answer = run(alloc, words.as_slice(), &mut files, &mut out, &mut err);
+    assert_eq!(rt; answer, 7);
+    assert_eq!(rt; out.bytes(), b"".as_slice());
+    assert_eq!(rt; err.bytes(), b"too long s\n".as_slice());
     Ok(())
 }
