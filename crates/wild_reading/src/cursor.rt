@@ -90,6 +90,7 @@ impl<'a> Cursor<'a> {
     #[tactic(auto, using(crate::proofs::Readers::here_only))]
     pub fn position(&self) -> usize
         ensures read { IsOnly readers.here self.now result self.now }
+        ensures value { result ≡ self.now.at }
         ensures within { result ≤ length self.now.text.bytes }
     {
         self.place()
@@ -100,6 +101,25 @@ impl<'a> Cursor<'a> {
         ensures within { result ≤ length self.now.text.bytes }
     {
         self.at
+    }
+
+    /// All bytes, also those behind the cursor and before its start.
+    pub fn bytes(&self) -> &'a [u8]
+        ensures { result.now ≡ self.now.text.bytes }
+    {
+        self.bytes
+    }
+
+    /// Goes on to a position, for readers of other crates.
+    #[tactic(auto, using(crate::proofs::Leaves::moves))]
+    pub fn pass_to(&mut self, position: usize)
+        requires forward { self.old.at ≤ position }
+        requires within { position ≤ length self.old.text.bytes }
+        ensures text { self.new.text ≡ self.old.text }
+        ensures at { self.new.at ≡ position }
+        ensures left { self.new.left ≡ self.old.left }
+    {
+        self.at = position;
     }
 
     /// Whether this byte is the next one.
@@ -158,8 +178,9 @@ impl<'a> Cursor<'a> {
         Ok(())
     }
 
+    /// Passes white alone.
     #[tactic(auto, using(crate::proofs::Readers::leaves, crate::proofs::Leaves::moves), unfolding(crate::specs::Lex::white, crate::specs::Lex::after_white))]
-    fn white(&mut self) -> Result<(), Stop>
+    pub fn white(&mut self) -> Result<(), Stop>
         ensures { Answers lexis.white self.old self.new result }
     {
         self.at = lex::past_white(self.bytes, self.at);
@@ -254,8 +275,9 @@ impl<'a> Cursor<'a> {
         Ok(())
     }
 
+    /// Reads a byte, and nothing behind it.
     #[tactic(auto, using(crate::proofs::Readers::leaves, crate::proofs::Leaves::moves), unfolding(crate::specs::Lex::byte, crate::specs::Lex::after_byte))]
-    fn byte(&mut self, byte: u8) -> Result<(), Stop>
+    pub fn byte(&mut self, byte: u8) -> Result<(), Stop>
         ensures read { Answers (lexis.byte byte) self.old self.new result }
         ensures shorter { OnOk result (ahead self.new < ahead self.old) }
         ensures marked { is_mark byte ≡ true → OnOk result (IsMarked self.new) }
@@ -343,7 +365,7 @@ impl<'a> Cursor<'a> {
             return Err(Stop::Syntax { position: self.at });
         }
         let content = &self.bytes[self.at..end];
-        self.at = end;
+        self.pass_to(end);
         Ok(Token {
             content,
             quoted: false,
