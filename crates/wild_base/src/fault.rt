@@ -23,11 +23,13 @@ impl<T: Drop> From<AllocFailed<T>> for NoMemory {
     }
 }
 
-/// Why a script and a table have no plan. Positions count bytes, rows and statements count from 0.
+/// Why a script and a table have no plan. Positions count bytes, rows count from 0.
 #[derive(Debug, Drop, PartialEq, Eq)]
 pub enum Fault {
     /// The script has no tree. The position is at most its length.
     Syntax { position: usize },
+    /// The script has no tree. A comment begins at the position and does not end.
+    UnclosedComment { position: usize },
     /// The script has no tree within the limit of depth.
     TooDeep { position: usize },
     /// The alignment of this row is no power of two up to 2 ^ 21.
@@ -51,6 +53,7 @@ impl Fault {
     {
         match self {
             Fault::Syntax { .. } => 1,
+            Fault::UnclosedComment { .. } => 2,
             Fault::TooDeep { .. } => 4,
             Fault::BadRow { .. } => 5,
             Fault::DuplicateSection { .. } => 14,

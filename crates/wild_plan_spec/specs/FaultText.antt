@@ -2,11 +2,12 @@
 use Rattle.std.specs.Prelude.{ℕ, List, [], ◌∷◌, ◌++◌, codes, decimal}
 use Rattle.wild_base.specs.Fault.{number_of}
 use Rattle.wild_base.specs.declared.fault.Fault.{Fault}
-use Rattle.wild_base.specs.declared.fault.Fault.TheVariants.{Syntax, TooDeep, BadRow, DuplicateSection, Overflow, AlignOverflow, NoMemory, Unsupported}
+use Rattle.wild_base.specs.declared.fault.Fault.TheVariants.{Syntax, UnclosedComment, TooDeep, BadRow, DuplicateSection, Overflow, AlignOverflow, NoMemory, Unsupported}
 use Rattle.wild_plan_spec.specs.Text.{field, printed_name}
 
 unfoldable pub variant_name : Fault → List ℕ
 variant_name (Syntax position) = codes "Syntax"
+variant_name (UnclosedComment position) = codes "UnclosedComment"
 variant_name (TooDeep position) = codes "TooDeep"
 variant_name (BadRow row) = codes "BadRow"
 variant_name (DuplicateSection name) = codes "DuplicateSection"
@@ -22,6 +23,7 @@ set_to word text = field (word ++ 61 ∷ text)
 -- the fields of a fault, each with its name
 unfoldable pub fields_text : Fault → List ℕ
 fields_text (Syntax position) = set_to (codes "position") (decimal position)
+fields_text (UnclosedComment position) = set_to (codes "position") (decimal position)
 fields_text (TooDeep position) = set_to (codes "position") (decimal position)
 fields_text (BadRow row) = set_to (codes "row") (decimal row)
 fields_text (DuplicateSection name) = set_to (codes "name") (printed_name name)

@@ -35,6 +35,7 @@ fn variant_name(fault: &Fault) -> &'static str
 {
     match fault {
         Fault::Syntax { .. } => "Syntax",
+        Fault::UnclosedComment { .. } => "UnclosedComment",
         Fault::TooDeep { .. } => "TooDeep",
         Fault::BadRow { .. } => "BadRow",
         Fault::DuplicateSection { .. } => "DuplicateSection",
@@ -51,6 +52,7 @@ fn push_fields(out: &mut String, fault: &Fault) -> Result<(), AllocError>
 {
     match fault {
         Fault::Syntax { position } => push_number(out, "position", *position as u64),
+        Fault::UnclosedComment { position } => push_number(out, "position", *position as u64),
         Fault::TooDeep { position } => push_number(out, "position", *position as u64),
         Fault::BadRow { row } => push_number(out, "row", *row as u64),
         Fault::DuplicateSection { name } => push_named(out, "name", name),

@@ -6,7 +6,7 @@ use Rattle.wild_reading.specs.declared.stop.Stop.TheVariants.{Syntax, OpenCommen
 
 abbrev pub fault_of : Stop → f.Fault
 fault_of (Syntax position) = fault.Syntax position
-fault_of (OpenComment position) = fault.Syntax position
+fault_of (OpenComment position) = fault.UnclosedComment position
 fault_of (NestedSort position) = fault.Syntax position
 fault_of (TooDeep position) = fault.TooDeep position
 fault_of NoMemory = fault.NoMemory

@@ -18,9 +18,8 @@ fn fault_of(stop: Stop) -> Fault
     ensures { result ≡ fault_of stop }
 {
     match stop {
-        Stop::Syntax { position }
-        | Stop::OpenComment { position }
-        | Stop::NestedSort { position } => Fault::Syntax { position },
+        Stop::Syntax { position } | Stop::NestedSort { position } => Fault::Syntax { position },
+        Stop::OpenComment { position } => Fault::UnclosedComment { position },
         Stop::TooDeep { position } => Fault::TooDeep { position },
         Stop::NoMemory => Fault::NoMemory,
     }

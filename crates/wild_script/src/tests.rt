@@ -41,6 +41,7 @@ fn outline(alloc: Global, text: &[u8]) -> Result<String, AllocError> {
             Ok(out)
         }
         Err(Fault::Syntax { position }) => format!(in alloc; "syntax {position}"),
+        Err(Fault::UnclosedComment { position }) => format!(in alloc; "unclosed {position}"),
         Err(_) => String::from_str(alloc, "other"),
     }
 }
@@ -70,8 +71,8 @@ fn outlines(rt: HostRuntime) -> Result<(), Fail> {
         (b"SECTIONS { \"a b\" : { } }", "a b:;."),
         (b"SECTIONS", "syntax 8"),
         (b"# no newline", "syntax 1"),
-        (b"/* open", "syntax 0"),
-        (b"SECTIONS { } /* open", "syntax 13"),
+        (b"/* open", "unclosed 0"),
+        (b"SECTIONS { } /* open", "unclosed 13"),
         (b"SECTIONS { .a : { } > r }", "syntax 20"),
         (b"SECTIONS { .a : { } = 0 }", "syntax 20"),
         (b"SECTIONS { .a : { } : h }", "syntax 20"),
