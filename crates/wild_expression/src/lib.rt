@@ -5,8 +5,10 @@ mod bytes;
 mod identifier;
 mod literal;
 mod quotes;
+mod tree;
 
 pub use bytes::Piece;
+pub use tree::{AssertCommand, Expression, SegmentName};
 
 #[cfg(test)]
 mod leaf_tests;
