@@ -1,3 +1,4 @@
 pub mod Identifier
 pub mod Literal
 pub mod Quotes
+pub mod Equality

@@ -2,6 +2,7 @@
 #![tactic(auto)]
 
 mod bytes;
+mod equality;
 mod identifier;
 mod literal;
 mod quotes;
@@ -10,5 +11,7 @@ mod tree;
 pub use bytes::Piece;
 pub use tree::{AssertCommand, Expression, SegmentName};
 
+#[cfg(test)]
+mod equality_tests;
 #[cfg(test)]
 mod leaf_tests;
