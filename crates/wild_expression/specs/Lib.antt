@@ -1,3 +1,6 @@
 pub mod Identifier
 pub mod Literal
 pub mod Quotes
+pub mod Operators
+pub mod Words
+pub mod Grammar
