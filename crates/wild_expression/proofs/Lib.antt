@@ -1,3 +1,7 @@
 pub mod Numbers
 pub mod Passing
 pub mod Shapes
+pub mod Operations
+pub mod Weights
+pub mod Calls
+pub mod Levels

@@ -43,7 +43,7 @@ pub fn goes_on(bytes: &[u8], at: usize) -> bool
 
 /// Whether a digit stands at a position.
 #[tactic(auto, unfolding(crate::specs::Identifier::begins_digit))]
-fn begins_digit(bytes: &[u8], at: usize) -> bool
+pub fn begins_digit(bytes: &[u8], at: usize) -> bool
     ensures { result ≡ spec.begins_digit bytes.now at }
 {
     match bytes.get(at) {

@@ -5,11 +5,17 @@ mod bytes;
 mod equality;
 mod identifier;
 mod literal;
+mod measured;
+mod operators;
 mod quotes;
 mod tree;
+mod words;
 
 pub use bytes::Piece;
+pub use measured::Measured;
+pub use operators::{Level, Operator, Sign};
 pub use tree::{AssertCommand, Expression, SegmentName};
+pub use words::{Call, Extreme, Head, Question};
 
 #[cfg(test)]
 mod equality_tests;
