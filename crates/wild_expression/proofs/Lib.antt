@@ -5,3 +5,4 @@ pub mod Operations
 pub mod Weights
 pub mod Calls
 pub mod Levels
+pub mod Rebuilt

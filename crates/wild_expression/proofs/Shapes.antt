@@ -4,7 +4,7 @@ use Rattle.wild_expression.specs.Equality.{Shape, absent, node, label_of, first_
 use Rattle.wild_expression.specs.declared.tree.Expression.{Expression, Number, LocationCounter, SizeofHeaders, Symbol, Sizeof, Alignof, Addr, Loadaddr, Origin, Length, Defined, LogicalOr', LogicalAnd', LessEqual', GreaterEqual', Equal', NotEqual', LessThan', GreaterThan', BitwiseOr', BitwiseXor', BitwiseAnd', LeftShift', RightShift', Add', Subtract', Multiply', Divide', Modulo', LogicalNot', BitwiseNot', Negate', Ternary', Min', Max', Align', SegmentStart', Assert'}
 
 -- an expression is not absent
-some : (x : Expression) → 1 ≤ size (shape x)
+pub some : (x : Expression) → 1 ≤ size (shape x)
 some (Number n) = omega arith
 some LocationCounter = omega arith
 some SizeofHeaders = omega arith

@@ -1,5 +1,5 @@
 -- When two expressions are equal.
-use Rattle.std.specs.Prelude.{◌≡◌, ℕ, ◌+◌, Bool, true, false, ◌&&◌, ◌==◌, List, [], Option, Some, None, nat_eq}
+use Rattle.std.specs.Prelude.{◌≡◌, ◌↔◌, ℕ, ◌+◌, Bool, true, false, ◌&&◌, ◌==◌, List, [], Option, Some, None, nat_eq}
 use Rattle.std.specs.Cmp.{IsEquivalence, on_equiv, and_equiv, nat_eq_equiv}
 use Rattle.std.specs.Cmp.Lexicographic.{pointwise, nat_list_eq_equiv}
 use Rattle.std.proofs.Common.{refl, sym, true≢false}
@@ -80,6 +80,56 @@ abbrev mutual
   row end_of-Expression = absent
   row (more_of-Expression x rest) = shape x
 
+-- the expression with its asserts at position 0
+abbrev mutual
+  pub erased : Expression → Expression
+  erased (Number n) = Number n
+  erased LocationCounter = LocationCounter
+  erased SizeofHeaders = SizeofHeaders
+  erased (Symbol s) = Symbol s
+  erased (Sizeof s) = Sizeof s
+  erased (Alignof s) = Alignof s
+  erased (Addr s) = Addr s
+  erased (Loadaddr s) = Loadaddr s
+  erased (Origin s) = Origin s
+  erased (Length s) = Length s
+  erased (Defined s) = Defined s
+  erased (LogicalOr' p x q y) = LogicalOr' p (erased_row x) q (erased_row y)
+  erased (LogicalAnd' p x q y) = LogicalAnd' p (erased_row x) q (erased_row y)
+  erased (LessEqual' p x q y) = LessEqual' p (erased_row x) q (erased_row y)
+  erased (GreaterEqual' p x q y) = GreaterEqual' p (erased_row x) q (erased_row y)
+  erased (Equal' p x q y) = Equal' p (erased_row x) q (erased_row y)
+  erased (NotEqual' p x q y) = NotEqual' p (erased_row x) q (erased_row y)
+  erased (LessThan' p x q y) = LessThan' p (erased_row x) q (erased_row y)
+  erased (GreaterThan' p x q y) = GreaterThan' p (erased_row x) q (erased_row y)
+  erased (BitwiseOr' p x q y) = BitwiseOr' p (erased_row x) q (erased_row y)
+  erased (BitwiseXor' p x q y) = BitwiseXor' p (erased_row x) q (erased_row y)
+  erased (BitwiseAnd' p x q y) = BitwiseAnd' p (erased_row x) q (erased_row y)
+  erased (LeftShift' p x q y) = LeftShift' p (erased_row x) q (erased_row y)
+  erased (RightShift' p x q y) = RightShift' p (erased_row x) q (erased_row y)
+  erased (Add' p x q y) = Add' p (erased_row x) q (erased_row y)
+  erased (Subtract' p x q y) = Subtract' p (erased_row x) q (erased_row y)
+  erased (Multiply' p x q y) = Multiply' p (erased_row x) q (erased_row y)
+  erased (Divide' p x q y) = Divide' p (erased_row x) q (erased_row y)
+  erased (Modulo' p x q y) = Modulo' p (erased_row x) q (erased_row y)
+  erased (LogicalNot' p x) = LogicalNot' p (erased_row x)
+  erased (BitwiseNot' p x) = BitwiseNot' p (erased_row x)
+  erased (Negate' p x) = Negate' p (erased_row x)
+  erased (Ternary' p x q y r z) = Ternary' p (erased_row x) q (erased_row y) r (erased_row z)
+  erased (Min' p x q y) = Min' p (erased_row x) q (erased_row y)
+  erased (Max' p x q y) = Max' p (erased_row x) q (erased_row y)
+  erased (Align' p x held) = Align' p (erased_row x) (erased_held held)
+  erased (SegmentStart' s p x) = SegmentStart' s p (erased_row x)
+  erased (Assert' p x message at) = Assert' p (erased_row x) message 0
+
+  pub erased_held : Held-Expression-Align-1 → Held-Expression-Align-1
+  erased_held None' = None'
+  erased_held (Some' p x) = Some' p (erased_row x)
+
+  pub erased_row : {m : _} → Row_of-Expression m → Row_of-Expression m
+  erased_row end_of-Expression = end_of-Expression
+  erased_row (more_of-Expression x rest) = more_of-Expression (erased x) (erased_row rest)
+
 -- what unfolds where a shape is computed
 unfoldable pub opened : Unit {0}
 unfolding Rattle.wild_expression.specs.declared.tree.Expression.TheBlock.hidden-the_row-Expression-0 denote.Hole.Carrier.hidden
@@ -129,6 +179,10 @@ same x y = shape_eq (shape x) (shape y)
 
 abbrev pub same_assert : AssertCommand → AssertCommand → Bool
 same_assert = eq_of_both (on (λ a. a.expression) same) (on (λ a. a.message) (pointwise nat_eq))
+
+-- two expressions are equal where they are the same tree, with their asserts at position 0
+abbrev pub EqualityIsSameness : Type 0
+EqualityIsSameness = (x y : Expression) → (same x y ≡ true) ↔ (erased x ≡ erased y)
 
 -- ---- laws
 

@@ -229,3 +229,9 @@ impl PartialEq for AssertCommand {
 impl Eq for AssertCommand {
     ghost laws = { spec.same_assert_equiv };
 }
+
+/// Two expressions are equal where they are the same tree, up to the positions of their asserts.
+#[tactic(auto, using(crate::proofs::Rebuilt::sameness))]
+pub fn equality_is_sameness()
+    ensures { spec.EqualityIsSameness }
+{}

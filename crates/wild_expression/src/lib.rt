@@ -12,6 +12,7 @@ mod tree;
 mod words;
 
 pub use bytes::Piece;
+pub use equality::equality_is_sameness;
 pub use measured::Measured;
 pub use operators::{Level, Operator, Sign};
 pub use tree::{AssertCommand, Expression, SegmentName};
