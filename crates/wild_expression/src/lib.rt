@@ -8,12 +8,14 @@ mod measured;
 mod operators;
 mod quotes;
 mod tree;
+mod values;
 mod words;
 
 pub use bytes::Piece;
 pub use measured::Measured;
 pub use operators::{Level, Operator, Sign};
 pub use tree::{AssertCommand, Expression, SegmentName};
+pub use values::value;
 pub use words::{Call, Extreme, Head, Question};
 
 #[cfg(test)]
