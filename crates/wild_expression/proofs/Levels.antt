@@ -1,10 +1,10 @@
 -- The levels, one below the other, and that each uses what is read one deeper at the limit that is given.
-use Rattle.std.proofs.Common.{◌≡◌, ◌≤◌, ◌<◌, ℕ, ◌+◌, true, refl, sym, subst, Result, arith}
+use Rattle.std.proofs.Common.{◌≡◌, ◌≤◌, ◌<◌, ℕ, ◌+◌, true, refl, sym, subst, Result, Ok, arith}
 use Rattle.wild_reading.specs.Place.{Place}
 use Rattle.wild_reading.specs.Reader.{Reader, Give}
 use Rattle.wild_reading.specs.Only.{Answers}
 use Rattle.wild_reading.specs.declared.stop.Stop.{Stop}
-use Rattle.wild_reading.proofs.Readers.{IsInner}
+use Rattle.wild_reading.proofs.Readers.{IsInner, answers_ok, give_only}
 use Rattle.wild_reading.proofs.Families.{AreLocal, key_local, fixed_local, then_are_local, choice_are_local, fold_are_local, inner_at}
 use Rattle.wild_expression.specs.declared.operators.Level.{Level}
 use Rattle.wild_expression.specs.declared.operators.Level.TheVariants as l
@@ -17,7 +17,7 @@ use Rattle.wild_expression.specs.declared.words.Head.TheVariants as h
 use Rattle.wild_expression.specs.declared.tree.Expression.{Expression}
 use Rattle.wild_expression.specs.declared.measured.Measured.{Measured}
 use Rattle.wild_expression.specs.Operators.{operand, is_layer, is_chain}
-use Rattle.wild_expression.specs.Grammar.{Values, lone, question, brackets_of, pair_of, align_counter, align_value_of, align_rest_of, align_of, segment_start_of, assert_of, behind_of, primary_of, signed_of, signed_or_primary_of, sign_of, step_of, chain_of, alone, comparison_of, alternatives_of, ternary_of, rest_of, layer_of, product_of, sum_of, shift_of, bitwise_and_of, bitwise_xor_of, bitwise_or_of, compared_of, logical_and_of, logical_or_of, whole_of, value_of, inner_value, value, brackets, pair, align_value, align_rest, align, segment_start, assert, behind, primary, signed, signed_or_primary, sign_level, step, chain, comparison, alternatives, ternary, rest, layer}
+use Rattle.wild_expression.specs.Grammar.{Values, lone, question, brackets_of, pair_of, align_counter, align_value_of, align_rest_of, align_of, segment_start_of, assert_of, arguments_of, behind_of, primary_of, signed_of, signed_or_primary_of, sign_of, step_of, chain_of, alone, comparison_of, alternatives_of, ternary_of, rest_of, layer_of, product_of, sum_of, shift_of, bitwise_and_of, bitwise_xor_of, bitwise_or_of, compared_of, logical_and_of, logical_or_of, whole_of, value_of, inner_value, value, brackets, pair, align_value, align_rest, align, segment_start, assert, arguments, behind, primary, signed, signed_or_primary, sign_level, step, chain, comparison, alternatives, ternary, rest, layer}
 
 -- ---- parts use what is read one deeper at the limit that is given
 
@@ -45,15 +45,19 @@ assert_local : AreLocal assert_of
 unfolding assert_of
 assert_local = then_are_local fixed_local (λ _. then_are_local fixed_local (λ _. then_are_local (key_local l.Ternary) (λ _. fixed_local)))
 
+arguments_local : (call : Call) → AreLocal (λ R. arguments_of R call)
+unfolding arguments_of
+arguments_local c.Brackets = brackets_local
+arguments_local (c.Name asks) = fixed_local
+arguments_local c.Align = align_local
+arguments_local (c.Pair extreme) = pair_local extreme
+arguments_local c.SegmentStart = segment_start_local
+arguments_local c.Assert = assert_local
+
 behind_local : (begin : Head) → AreLocal (λ R. behind_of R begin)
 unfolding behind_of
 behind_local (h.Whole x) = fixed_local
-behind_local (h.Before c.Brackets) = brackets_local
-behind_local (h.Before (c.Name asks)) = fixed_local
-behind_local (h.Before c.Align) = align_local
-behind_local (h.Before (c.Pair extreme)) = pair_local extreme
-behind_local (h.Before c.SegmentStart) = segment_start_local
-behind_local (h.Before c.Assert) = assert_local
+behind_local (h.Before call) = arguments_local call
 
 sign_local : AreLocal sign_of
 unfolding sign_of signed_or_primary_of signed_of primary_of
@@ -212,51 +216,63 @@ module _ {s r : Place} {result : Result Measured Stop} where
   pub alone_answers : {level : Level} (x : Measured) → level ≡ l.Sign → Answers (alone x) s r result → Answers (rest level x) s r result
   alone_answers x e a = subst (λ (k : Level). Answers (rest k x) s r result) (sym e) (from_alone x a)
 
-  -- what stands behind a head
+  -- what stands behind a call
 
-  from_brackets : Answers brackets s r result → Answers (behind (h.Before c.Brackets)) s r result
-  unfolding behind behind_of brackets
+  from_brackets : Answers brackets s r result → Answers (arguments c.Brackets) s r result
+  unfolding arguments arguments_of brackets
   from_brackets a = a
 
-  pub brackets_answers : {begin : Head} → begin ≡ h.Before c.Brackets → Answers brackets s r result → Answers (behind begin) s r result
-  brackets_answers e a = subst (λ (k : Head). Answers (behind k) s r result) (sym e) (from_brackets a)
+  pub brackets_answers : {call : Call} → call ≡ c.Brackets → Answers brackets s r result → Answers (arguments call) s r result
+  brackets_answers e a = subst (λ (k : Call). Answers (arguments k) s r result) (sym e) (from_brackets a)
 
-  from_question : (asks : Question) → Answers (question asks) s r result → Answers (behind (h.Before (c.Name asks))) s r result
-  unfolding behind behind_of
+  from_question : (asks : Question) → Answers (question asks) s r result → Answers (arguments (c.Name asks)) s r result
+  unfolding arguments arguments_of
   from_question asks a = a
 
-  pub question_answers : {begin : Head} {asks : Question} → begin ≡ h.Before (c.Name asks) → Answers (question asks) s r result → Answers (behind begin) s r result
-  question_answers e a = subst (λ (k : Head). Answers (behind k) s r result) (sym e) (from_question _ a)
+  pub question_answers : {call : Call} {asks : Question} → call ≡ c.Name asks → Answers (question asks) s r result → Answers (arguments call) s r result
+  question_answers e a = subst (λ (k : Call). Answers (arguments k) s r result) (sym e) (from_question _ a)
 
-  from_align : Answers align s r result → Answers (behind (h.Before c.Align)) s r result
-  unfolding behind behind_of align
+  from_align : Answers align s r result → Answers (arguments c.Align) s r result
+  unfolding arguments arguments_of align
   from_align a = a
 
-  pub align_answers : {begin : Head} → begin ≡ h.Before c.Align → Answers align s r result → Answers (behind begin) s r result
-  align_answers e a = subst (λ (k : Head). Answers (behind k) s r result) (sym e) (from_align a)
+  pub align_answers : {call : Call} → call ≡ c.Align → Answers align s r result → Answers (arguments call) s r result
+  align_answers e a = subst (λ (k : Call). Answers (arguments k) s r result) (sym e) (from_align a)
 
-  from_pair : (extreme : Extreme) → Answers (pair extreme) s r result → Answers (behind (h.Before (c.Pair extreme))) s r result
-  unfolding behind behind_of pair
+  from_pair : (extreme : Extreme) → Answers (pair extreme) s r result → Answers (arguments (c.Pair extreme)) s r result
+  unfolding arguments arguments_of pair
   from_pair extreme a = a
 
-  pub pair_answers : {begin : Head} {extreme : Extreme} → begin ≡ h.Before (c.Pair extreme) → Answers (pair extreme) s r result → Answers (behind begin) s r result
-  pair_answers e a = subst (λ (k : Head). Answers (behind k) s r result) (sym e) (from_pair _ a)
+  pub pair_answers : {call : Call} {extreme : Extreme} → call ≡ c.Pair extreme → Answers (pair extreme) s r result → Answers (arguments call) s r result
+  pair_answers e a = subst (λ (k : Call). Answers (arguments k) s r result) (sym e) (from_pair _ a)
 
-  from_segment_start : Answers segment_start s r result → Answers (behind (h.Before c.SegmentStart)) s r result
-  unfolding behind behind_of segment_start
+  from_segment_start : Answers segment_start s r result → Answers (arguments c.SegmentStart) s r result
+  unfolding arguments arguments_of segment_start
   from_segment_start a = a
 
-  pub segment_start_answers : {begin : Head} → begin ≡ h.Before c.SegmentStart → Answers segment_start s r result → Answers (behind begin) s r result
-  segment_start_answers e a = subst (λ (k : Head). Answers (behind k) s r result) (sym e) (from_segment_start a)
+  pub segment_start_answers : {call : Call} → call ≡ c.SegmentStart → Answers segment_start s r result → Answers (arguments call) s r result
+  segment_start_answers e a = subst (λ (k : Call). Answers (arguments k) s r result) (sym e) (from_segment_start a)
 
-  from_assert : Answers assert s r result → Answers (behind (h.Before c.Assert)) s r result
-  unfolding behind behind_of assert
+  from_assert : Answers assert s r result → Answers (arguments c.Assert) s r result
+  unfolding arguments arguments_of assert
   from_assert a = a
 
-  pub assert_answers : {begin : Head} → begin ≡ h.Before c.Assert → Answers assert s r result → Answers (behind begin) s r result
-  assert_answers e a = subst (λ (k : Head). Answers (behind k) s r result) (sym e) (from_assert a)
+  pub assert_answers : {call : Call} → call ≡ c.Assert → Answers assert s r result → Answers (arguments call) s r result
+  assert_answers e a = subst (λ (k : Call). Answers (arguments k) s r result) (sym e) (from_assert a)
 
-pub ruleset dispatch = (layer_answers, sign_answers, chain_answers, ternary_answers, comparison_answers, alone_answers, brackets_answers, question_answers, align_answers, pair_answers, segment_start_answers, assert_answers)
+  from_before : (call : Call) → Answers (arguments call) s r result → Answers (behind (h.Before call)) s r result
+  unfolding behind behind_of arguments
+  from_before call a = a
+
+  pub before_answers : {begin : Head} {call : Call} → begin ≡ h.Before call → Answers (arguments call) s r result → Answers (behind begin) s r result
+  before_answers e a = subst (λ (k : Head). Answers (behind k) s r result) (sym e) (from_before _ a)
+
+from_whole : (x : Expression) {m : Place} → Answers (behind (h.Whole x)) m m (Ok (lone x))
+unfolding behind behind_of
+from_whole x = answers_ok give_only
+
+pub whole_answers : {begin : Head} {x : Expression} {m : Place} → begin ≡ h.Whole x → Answers (behind begin) m m (Ok (lone x))
+whole_answers {x = x} {m = m} e = subst (λ (k : Head). Answers (behind k) m m (Ok (lone x))) (sym e) (from_whole x)
 
 -- ---- ranks, for measures
 

@@ -29,6 +29,22 @@ pub byte_end : (c : ℕ) {s r : Place} → IsOnly (byte c) s tt r → r.at ≡ s
 unfolding byte
 byte_end c {s} {r} p = after_found c s.text.bytes s.at r.at _ refl p.reads.found
 
+began : (c : ℕ) (b : Bytes) (i j : ℕ) (t : Bool) → begins c b i ≡ t → after_byte c b i ≡ Some j → begins c b i ≡ true
+unfolding after_byte
+began c b i j true e h = e
+began c b i j false e h = absurd cc
+
+byte_counts : (c : ℕ) {s r : Place} → is_mark c ≡ true → IsOnly (byte c) s tt r → mark_count s.text.bytes s.at + 1 ≤ mark_count s.text.bytes (s.at + 1)
+unfolding byte
+byte_counts c {s} {r} m p = marked c s.text.bytes s.at (began c s.text.bytes s.at r.at _ refl p.reads.found) m
+
+-- a mark pays for one level more
+pub byte_pays : (c : ℕ) {s r : Place} {more : ℕ} → is_mark c ≡ true → IsOnly (byte c) s tt r → IsPaid more s → IsPaid (more + 1) r
+byte_pays c {s} {r} {more} m p q =
+    let at_start : IsPaid (more + 1) (record { text = s.text; at = r.at; left = s.left }) = record { paid = omega (arith, q.paid, byte_counts c m p, mark_count-rises s.text.bytes (s.at + 1) r.at (omega (arith, byte_end c p))) } in
+    let text_same : IsPaid (more + 1) (record { text = r.text; at = r.at; left = s.left }) = subst (λ (t : Text). IsPaid (more + 1) (record { text = t; at = r.at; left = s.left })) (sym p.text) at_start in
+    record { paid = omega (arith, text_same.paid, p.left) }
+
 stands : (c : ℕ) (b : Bytes) (i : ℕ) → begins c b i ≡ true → after_byte c b i ≡ Some (i + 1)
 unfolding after_byte
 stands c b i h = rw h refl

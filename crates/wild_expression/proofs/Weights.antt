@@ -1,8 +1,9 @@
 -- What is read costs as many marks as it is deep.
-use Rattle.std.proofs.Common.{◌≡◌, ◌≤◌, ◌<◌, ◌+◌, ℕ, zero, suc, arith, refl, sym, subst, ap, ◌∙◌, Result}
+use Rattle.std.proofs.Common.{◌≡◌, ◌≤◌, ◌<◌, ◌+◌, ℕ, true, zero, suc, arith, refl, sym, subst, ap, ◌∙◌, Result}
 use Rattle.std.specs.Prelude.{max}
-use Rattle.wild_reading.specs.Place.{Text, Place, IsPaid, IsMarked, mark_count}
+use Rattle.wild_reading.specs.Place.{Text, Place, IsPaid, IsMarked, is_mark}
 use Rattle.wild_reading.specs.Reader.{Reader}
+use Rattle.wild_reading.specs.Lex.{byte}
 use Rattle.wild_reading.specs.Family.{room, HasRoom}
 use Rattle.wild_reading.specs.Only.{IsOnly, Refuses, IsInside, Leaves}
 use Rattle.wild_reading.specs.declared.stop.Stop.{Stop}
@@ -11,8 +12,9 @@ use Rattle.wild_reading.proofs.Marks.{paid_on}
 use Rattle.wild_expression.specs.declared.operators.Level.{Level}
 use Rattle.wild_expression.specs.declared.operators.Operator.{Operator}
 use Rattle.wild_expression.specs.Operators.{operator}
+use Rattle.wild_expression.specs.declared.measured.Measured.{Measured}
 use Rattle.wild_expression.specs.Grammar.{IsCovered}
-use Rattle.wild_expression.proofs.Operations.{operator_pays}
+use Rattle.wild_expression.proofs.Operations.{operator_pays, byte_pays}
 
 pub paid_less : {more less : ℕ} {s : Place} → less ≤ more → IsPaid more s → IsPaid less s
 paid_less h p = record { paid = omega (arith, p.paid) }
@@ -34,14 +36,15 @@ from_cover (suc n) f q m = f (omega arith) (q.paid (omega arith))
 pub operator_covers : (level : Level) {s r : Place} {op : Operator} {depth : ℕ} → IsOnly (operator level) s op r → IsCovered depth s → IsMarked r → IsPaid (depth + 1) r
 operator_covers level {depth = depth} p q m = from_cover depth (λ h g. operator_pays level p g) q m
 
-max_paid : {n m : ℕ} {s : Place} → IsPaid (suc n) s → IsPaid (suc m) s → IsPaid (suc (max n m)) s
-max_paid p q = record { paid = omega (arith, p.paid, q.paid) }
+pub byte_covers : (c : ℕ) {s r : Place} {depth : ℕ} → is_mark c ≡ true → IsOnly (byte c) s tt r → IsCovered depth s → IsMarked r → IsPaid (depth + 1) r
+byte_covers c {depth = depth} k p q m = from_cover depth (λ h g. byte_pays c k p g) q m
 
-pub both_covered : {n m : ℕ} {s : Place} → IsPaid (suc n) s → IsPaid (suc m) s → IsCovered (suc (max n m)) s
-both_covered p q = covered_by (max_paid p q)
+pub max_paid : (n m : ℕ) {s : Place} → IsPaid (n + 1) s → IsPaid (m + 1) s → IsPaid (max n m + 1) s
+max_paid n m p q = record { paid = omega (arith, p.paid, q.paid) }
 
-pub three_covered : {n m k : ℕ} {s : Place} → IsPaid (suc n) s → IsPaid (suc m) s → IsPaid (suc k) s → IsCovered (suc (max n (max m k))) s
-three_covered p q o = covered_by (max_paid p (max_paid q o))
+-- what is made of the parts is as deep as it says
+pub covered_as : {x y : Measured} {s : Place} → x ≡ y → IsPaid y.depth s → IsCovered x.depth s
+covered_as {x} {y} {s} e p = subst (λ (m : Measured). IsCovered m.depth s) (sym e) (covered_by p)
 
 -- ---- room that is there
 
@@ -75,4 +78,4 @@ inside_paid (suc n) p q = q.paid (omega arith)
 pub enclosed_paid : {X : Type 0} {R : Reader X} {s t m r : Place} {x : X} {depth : ℕ} → IsMarked s → IsInside s t → IsOnly R t x m → IsCovered depth m → Leaves m r → IsPaid (depth + 1) r
 enclosed_paid {depth = depth} k i p q l = paid_outside l (inside_paid depth (paid_on p (paid_inside i k)) q)
 
-pub ruleset weights = (paid_on, covered_on, covered_by, covered_none, both_covered, three_covered)
+pub ruleset weights = (paid_on, covered_on, covered_by, covered_none)

@@ -183,9 +183,12 @@ call_of inner (c.Pair extreme) = pair_of inner extreme
 call_of inner c.SegmentStart = segment_start_of inner
 call_of inner c.Assert = assert_of inner
 
+unfoldable pub arguments_of : Values → Call → Reader Measured
+arguments_of inner call = call_of inner call
+
 abbrev pub headed_of : Values → Head → Reader Measured
 headed_of inner (h.Whole x) = Give (lone x)
-headed_of inner (h.Before call) = call_of inner call
+headed_of inner (h.Before call) = arguments_of inner call
 
 unfoldable pub behind_of : Values → Head → Reader Measured
 behind_of inner begin = headed_of inner begin
@@ -343,6 +346,9 @@ segment_start = segment_start_of inner_value
 
 unfoldable pub assert : Reader Measured
 assert = assert_of inner_value
+
+unfoldable pub arguments : Call → Reader Measured
+arguments call = arguments_of inner_value call
 
 unfoldable pub behind : Head → Reader Measured
 behind begin = behind_of inner_value begin

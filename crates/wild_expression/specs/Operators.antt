@@ -184,7 +184,7 @@ sign_byte s.Negate = 45
 
 abbrev pub behind_sign : Option Sign → ℕ → Option (Sign × ℕ)
 behind_sign None i = None
-behind_sign (Some sign) i = Some (sign, i + 1)
+behind_sign (Some x) i = Some (x, i + 1)
 
 unfoldable pub sign_at : Bytes → ℕ → Option (Sign × ℕ)
 sign_at b i = behind_sign (sign_found b i) i
@@ -194,7 +194,7 @@ sign = Takes sign_at
 
 abbrev pub is_there : Option Sign → Bool
 is_there None = false
-is_there (Some sign) = true
+is_there (Some x) = true
 
 -- a sign is ahead
 unfoldable pub is_signed : Bytes → ℕ → Bool

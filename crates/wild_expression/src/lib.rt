@@ -9,6 +9,7 @@ mod measured;
 mod operators;
 mod quotes;
 mod tree;
+mod values;
 mod words;
 
 pub use bytes::Piece;
@@ -16,6 +17,7 @@ pub use equality::equality_is_sameness;
 pub use measured::Measured;
 pub use operators::{Level, Operator, Sign};
 pub use tree::{AssertCommand, Expression, SegmentName};
+pub use values::value;
 pub use words::{Call, Extreme, Head, Question};
 
 #[cfg(test)]
