@@ -2,7 +2,7 @@
 use Rattle.std.proofs.Common.{◌≡◌, ◌∙◌, ℕ, true, ◌==◌, if◌then◌else◌, [], refl, sym, ap, true≢false, ◌≤◌, arith}
 use Rattle.std.proofs.lemmas.Bool.{and_parts, eqb-true}
 use Rattle.std.proofs.lemmas.Slice.Eq.{bytes_eq-Decides}
-use Rattle.wild_expression.specs.Equality.{Label, Shape, absent, node, label_eq, segment, shape, held_shape, shape_eq, erased, erased_held, same_equiv, size, EqualityIsSameness}
+use Rattle.wild_expression.specs.Equality.{Label, Shape, absent, node, label_eq, plain, segment, shape, held_shape, shape_eq, erased, erased_held, same_equiv, size, EqualityIsSameness}
 use Rattle.wild_expression.proofs.Shapes.{some}
 use Rattle.wild_expression.specs.declared.tree.SegmentName.{SegmentName}
 use Rattle.wild_expression.specs.declared.tree.SegmentName.TheVariants.{Text, Data, Bss, Unknown}
@@ -129,31 +129,31 @@ mutual
   kept (Origin s) = refl
   kept (Length s) = refl
   kept (Defined s) = refl
-  kept (LogicalOr' p (more_of-Expression x end_of-Expression) q (more_of-Expression y end_of-Expression)) = λ i. node (record { variant = 11; number = 0; name = [] }) (kept x i) (kept y i) absent
-  kept (LogicalAnd' p (more_of-Expression x end_of-Expression) q (more_of-Expression y end_of-Expression)) = λ i. node (record { variant = 12; number = 0; name = [] }) (kept x i) (kept y i) absent
-  kept (LessEqual' p (more_of-Expression x end_of-Expression) q (more_of-Expression y end_of-Expression)) = λ i. node (record { variant = 13; number = 0; name = [] }) (kept x i) (kept y i) absent
-  kept (GreaterEqual' p (more_of-Expression x end_of-Expression) q (more_of-Expression y end_of-Expression)) = λ i. node (record { variant = 14; number = 0; name = [] }) (kept x i) (kept y i) absent
-  kept (Equal' p (more_of-Expression x end_of-Expression) q (more_of-Expression y end_of-Expression)) = λ i. node (record { variant = 15; number = 0; name = [] }) (kept x i) (kept y i) absent
-  kept (NotEqual' p (more_of-Expression x end_of-Expression) q (more_of-Expression y end_of-Expression)) = λ i. node (record { variant = 16; number = 0; name = [] }) (kept x i) (kept y i) absent
-  kept (LessThan' p (more_of-Expression x end_of-Expression) q (more_of-Expression y end_of-Expression)) = λ i. node (record { variant = 17; number = 0; name = [] }) (kept x i) (kept y i) absent
-  kept (GreaterThan' p (more_of-Expression x end_of-Expression) q (more_of-Expression y end_of-Expression)) = λ i. node (record { variant = 18; number = 0; name = [] }) (kept x i) (kept y i) absent
-  kept (BitwiseOr' p (more_of-Expression x end_of-Expression) q (more_of-Expression y end_of-Expression)) = λ i. node (record { variant = 19; number = 0; name = [] }) (kept x i) (kept y i) absent
-  kept (BitwiseXor' p (more_of-Expression x end_of-Expression) q (more_of-Expression y end_of-Expression)) = λ i. node (record { variant = 20; number = 0; name = [] }) (kept x i) (kept y i) absent
-  kept (BitwiseAnd' p (more_of-Expression x end_of-Expression) q (more_of-Expression y end_of-Expression)) = λ i. node (record { variant = 21; number = 0; name = [] }) (kept x i) (kept y i) absent
-  kept (LeftShift' p (more_of-Expression x end_of-Expression) q (more_of-Expression y end_of-Expression)) = λ i. node (record { variant = 22; number = 0; name = [] }) (kept x i) (kept y i) absent
-  kept (RightShift' p (more_of-Expression x end_of-Expression) q (more_of-Expression y end_of-Expression)) = λ i. node (record { variant = 23; number = 0; name = [] }) (kept x i) (kept y i) absent
-  kept (Add' p (more_of-Expression x end_of-Expression) q (more_of-Expression y end_of-Expression)) = λ i. node (record { variant = 24; number = 0; name = [] }) (kept x i) (kept y i) absent
-  kept (Subtract' p (more_of-Expression x end_of-Expression) q (more_of-Expression y end_of-Expression)) = λ i. node (record { variant = 25; number = 0; name = [] }) (kept x i) (kept y i) absent
-  kept (Multiply' p (more_of-Expression x end_of-Expression) q (more_of-Expression y end_of-Expression)) = λ i. node (record { variant = 26; number = 0; name = [] }) (kept x i) (kept y i) absent
-  kept (Divide' p (more_of-Expression x end_of-Expression) q (more_of-Expression y end_of-Expression)) = λ i. node (record { variant = 27; number = 0; name = [] }) (kept x i) (kept y i) absent
-  kept (Modulo' p (more_of-Expression x end_of-Expression) q (more_of-Expression y end_of-Expression)) = λ i. node (record { variant = 28; number = 0; name = [] }) (kept x i) (kept y i) absent
-  kept (LogicalNot' p (more_of-Expression x end_of-Expression)) = λ i. node (record { variant = 29; number = 0; name = [] }) (kept x i) absent absent
-  kept (BitwiseNot' p (more_of-Expression x end_of-Expression)) = λ i. node (record { variant = 30; number = 0; name = [] }) (kept x i) absent absent
-  kept (Negate' p (more_of-Expression x end_of-Expression)) = λ i. node (record { variant = 31; number = 0; name = [] }) (kept x i) absent absent
-  kept (Ternary' p (more_of-Expression x end_of-Expression) q (more_of-Expression y end_of-Expression) r (more_of-Expression z end_of-Expression)) = λ i. node (record { variant = 32; number = 0; name = [] }) (kept x i) (kept y i) (kept z i)
-  kept (Min' p (more_of-Expression x end_of-Expression) q (more_of-Expression y end_of-Expression)) = λ i. node (record { variant = 33; number = 0; name = [] }) (kept x i) (kept y i) absent
-  kept (Max' p (more_of-Expression x end_of-Expression) q (more_of-Expression y end_of-Expression)) = λ i. node (record { variant = 34; number = 0; name = [] }) (kept x i) (kept y i) absent
-  kept (Align' p (more_of-Expression x end_of-Expression) held) = λ i. node (record { variant = 35; number = 0; name = [] }) (kept x i) (kept_held held i) absent
+  kept (LogicalOr' p (more_of-Expression x end_of-Expression) q (more_of-Expression y end_of-Expression)) = λ i. node (plain 11) (kept x i) (kept y i) absent
+  kept (LogicalAnd' p (more_of-Expression x end_of-Expression) q (more_of-Expression y end_of-Expression)) = λ i. node (plain 12) (kept x i) (kept y i) absent
+  kept (LessEqual' p (more_of-Expression x end_of-Expression) q (more_of-Expression y end_of-Expression)) = λ i. node (plain 13) (kept x i) (kept y i) absent
+  kept (GreaterEqual' p (more_of-Expression x end_of-Expression) q (more_of-Expression y end_of-Expression)) = λ i. node (plain 14) (kept x i) (kept y i) absent
+  kept (Equal' p (more_of-Expression x end_of-Expression) q (more_of-Expression y end_of-Expression)) = λ i. node (plain 15) (kept x i) (kept y i) absent
+  kept (NotEqual' p (more_of-Expression x end_of-Expression) q (more_of-Expression y end_of-Expression)) = λ i. node (plain 16) (kept x i) (kept y i) absent
+  kept (LessThan' p (more_of-Expression x end_of-Expression) q (more_of-Expression y end_of-Expression)) = λ i. node (plain 17) (kept x i) (kept y i) absent
+  kept (GreaterThan' p (more_of-Expression x end_of-Expression) q (more_of-Expression y end_of-Expression)) = λ i. node (plain 18) (kept x i) (kept y i) absent
+  kept (BitwiseOr' p (more_of-Expression x end_of-Expression) q (more_of-Expression y end_of-Expression)) = λ i. node (plain 19) (kept x i) (kept y i) absent
+  kept (BitwiseXor' p (more_of-Expression x end_of-Expression) q (more_of-Expression y end_of-Expression)) = λ i. node (plain 20) (kept x i) (kept y i) absent
+  kept (BitwiseAnd' p (more_of-Expression x end_of-Expression) q (more_of-Expression y end_of-Expression)) = λ i. node (plain 21) (kept x i) (kept y i) absent
+  kept (LeftShift' p (more_of-Expression x end_of-Expression) q (more_of-Expression y end_of-Expression)) = λ i. node (plain 22) (kept x i) (kept y i) absent
+  kept (RightShift' p (more_of-Expression x end_of-Expression) q (more_of-Expression y end_of-Expression)) = λ i. node (plain 23) (kept x i) (kept y i) absent
+  kept (Add' p (more_of-Expression x end_of-Expression) q (more_of-Expression y end_of-Expression)) = λ i. node (plain 24) (kept x i) (kept y i) absent
+  kept (Subtract' p (more_of-Expression x end_of-Expression) q (more_of-Expression y end_of-Expression)) = λ i. node (plain 25) (kept x i) (kept y i) absent
+  kept (Multiply' p (more_of-Expression x end_of-Expression) q (more_of-Expression y end_of-Expression)) = λ i. node (plain 26) (kept x i) (kept y i) absent
+  kept (Divide' p (more_of-Expression x end_of-Expression) q (more_of-Expression y end_of-Expression)) = λ i. node (plain 27) (kept x i) (kept y i) absent
+  kept (Modulo' p (more_of-Expression x end_of-Expression) q (more_of-Expression y end_of-Expression)) = λ i. node (plain 28) (kept x i) (kept y i) absent
+  kept (LogicalNot' p (more_of-Expression x end_of-Expression)) = λ i. node (plain 29) (kept x i) absent absent
+  kept (BitwiseNot' p (more_of-Expression x end_of-Expression)) = λ i. node (plain 30) (kept x i) absent absent
+  kept (Negate' p (more_of-Expression x end_of-Expression)) = λ i. node (plain 31) (kept x i) absent absent
+  kept (Ternary' p (more_of-Expression x end_of-Expression) q (more_of-Expression y end_of-Expression) r (more_of-Expression z end_of-Expression)) = λ i. node (plain 32) (kept x i) (kept y i) (kept z i)
+  kept (Min' p (more_of-Expression x end_of-Expression) q (more_of-Expression y end_of-Expression)) = λ i. node (plain 33) (kept x i) (kept y i) absent
+  kept (Max' p (more_of-Expression x end_of-Expression) q (more_of-Expression y end_of-Expression)) = λ i. node (plain 34) (kept x i) (kept y i) absent
+  kept (Align' p (more_of-Expression x end_of-Expression) held) = λ i. node (plain 35) (kept x i) (kept_held held i) absent
   kept (SegmentStart' s p (more_of-Expression x end_of-Expression)) = λ i. node (record { variant = 36; number = segment s; name = [] }) (kept x i) absent absent
   kept (Assert' p (more_of-Expression x end_of-Expression) message at) = λ i. node (record { variant = 37; number = 0; name = message }) (kept x i) absent absent
 

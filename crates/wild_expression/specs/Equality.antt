@@ -21,6 +21,9 @@ pub data Shape : Type 0 where
   absent : Shape
   node : Label → Shape → Shape → Shape → Shape
 
+abbrev pub plain : ℕ → Label
+plain k = record { variant = k; number = 0; name = [] }
+
 abbrev pub leaf : ℕ → ℕ → List ℕ → Shape
 leaf k n s = node (record { variant = k; number = n; name = s }) absent absent absent
 
@@ -44,31 +47,31 @@ abbrev mutual
   shape (Origin s) = leaf 8 0 s
   shape (Length s) = leaf 9 0 s
   shape (Defined s) = leaf 10 0 s
-  shape (LogicalOr' p x q y) = node (record { variant = 11; number = 0; name = [] }) (row x) (row y) absent
-  shape (LogicalAnd' p x q y) = node (record { variant = 12; number = 0; name = [] }) (row x) (row y) absent
-  shape (LessEqual' p x q y) = node (record { variant = 13; number = 0; name = [] }) (row x) (row y) absent
-  shape (GreaterEqual' p x q y) = node (record { variant = 14; number = 0; name = [] }) (row x) (row y) absent
-  shape (Equal' p x q y) = node (record { variant = 15; number = 0; name = [] }) (row x) (row y) absent
-  shape (NotEqual' p x q y) = node (record { variant = 16; number = 0; name = [] }) (row x) (row y) absent
-  shape (LessThan' p x q y) = node (record { variant = 17; number = 0; name = [] }) (row x) (row y) absent
-  shape (GreaterThan' p x q y) = node (record { variant = 18; number = 0; name = [] }) (row x) (row y) absent
-  shape (BitwiseOr' p x q y) = node (record { variant = 19; number = 0; name = [] }) (row x) (row y) absent
-  shape (BitwiseXor' p x q y) = node (record { variant = 20; number = 0; name = [] }) (row x) (row y) absent
-  shape (BitwiseAnd' p x q y) = node (record { variant = 21; number = 0; name = [] }) (row x) (row y) absent
-  shape (LeftShift' p x q y) = node (record { variant = 22; number = 0; name = [] }) (row x) (row y) absent
-  shape (RightShift' p x q y) = node (record { variant = 23; number = 0; name = [] }) (row x) (row y) absent
-  shape (Add' p x q y) = node (record { variant = 24; number = 0; name = [] }) (row x) (row y) absent
-  shape (Subtract' p x q y) = node (record { variant = 25; number = 0; name = [] }) (row x) (row y) absent
-  shape (Multiply' p x q y) = node (record { variant = 26; number = 0; name = [] }) (row x) (row y) absent
-  shape (Divide' p x q y) = node (record { variant = 27; number = 0; name = [] }) (row x) (row y) absent
-  shape (Modulo' p x q y) = node (record { variant = 28; number = 0; name = [] }) (row x) (row y) absent
-  shape (LogicalNot' p x) = node (record { variant = 29; number = 0; name = [] }) (row x) absent absent
-  shape (BitwiseNot' p x) = node (record { variant = 30; number = 0; name = [] }) (row x) absent absent
-  shape (Negate' p x) = node (record { variant = 31; number = 0; name = [] }) (row x) absent absent
-  shape (Ternary' p x q y r z) = node (record { variant = 32; number = 0; name = [] }) (row x) (row y) (row z)
-  shape (Min' p x q y) = node (record { variant = 33; number = 0; name = [] }) (row x) (row y) absent
-  shape (Max' p x q y) = node (record { variant = 34; number = 0; name = [] }) (row x) (row y) absent
-  shape (Align' p x held) = node (record { variant = 35; number = 0; name = [] }) (row x) (held_shape held) absent
+  shape (LogicalOr' p x q y) = node (plain 11) (row x) (row y) absent
+  shape (LogicalAnd' p x q y) = node (plain 12) (row x) (row y) absent
+  shape (LessEqual' p x q y) = node (plain 13) (row x) (row y) absent
+  shape (GreaterEqual' p x q y) = node (plain 14) (row x) (row y) absent
+  shape (Equal' p x q y) = node (plain 15) (row x) (row y) absent
+  shape (NotEqual' p x q y) = node (plain 16) (row x) (row y) absent
+  shape (LessThan' p x q y) = node (plain 17) (row x) (row y) absent
+  shape (GreaterThan' p x q y) = node (plain 18) (row x) (row y) absent
+  shape (BitwiseOr' p x q y) = node (plain 19) (row x) (row y) absent
+  shape (BitwiseXor' p x q y) = node (plain 20) (row x) (row y) absent
+  shape (BitwiseAnd' p x q y) = node (plain 21) (row x) (row y) absent
+  shape (LeftShift' p x q y) = node (plain 22) (row x) (row y) absent
+  shape (RightShift' p x q y) = node (plain 23) (row x) (row y) absent
+  shape (Add' p x q y) = node (plain 24) (row x) (row y) absent
+  shape (Subtract' p x q y) = node (plain 25) (row x) (row y) absent
+  shape (Multiply' p x q y) = node (plain 26) (row x) (row y) absent
+  shape (Divide' p x q y) = node (plain 27) (row x) (row y) absent
+  shape (Modulo' p x q y) = node (plain 28) (row x) (row y) absent
+  shape (LogicalNot' p x) = node (plain 29) (row x) absent absent
+  shape (BitwiseNot' p x) = node (plain 30) (row x) absent absent
+  shape (Negate' p x) = node (plain 31) (row x) absent absent
+  shape (Ternary' p x q y r z) = node (plain 32) (row x) (row y) (row z)
+  shape (Min' p x q y) = node (plain 33) (row x) (row y) absent
+  shape (Max' p x q y) = node (plain 34) (row x) (row y) absent
+  shape (Align' p x held) = node (plain 35) (row x) (held_shape held) absent
   shape (SegmentStart' s p x) = node (record { variant = 36; number = segment s; name = [] }) (row x) absent absent
   shape (Assert' p x message at) = node (record { variant = 37; number = 0; name = message }) (row x) absent absent
 

@@ -1,27 +1,39 @@
 //! Equality of expressions.
 
-ghost use Rattle.std.specs.Prelude.{◌≡◌, ◌≤◌};
+ghost use Rattle.std.specs.Prelude.{◌≡◌, ◌≤◌, MatchOption};
 ghost use Rattle.std.specs.Option.{option_copied};
 ghost use Rattle.std.specs.Cmp.{partial_equiv_from_equiv};
 ghost use Rattle.wild_expression.specs.Equality as spec;
 
 use crate::tree::{AssertCommand, Expression, SegmentName};
 
+// The variant of an expression with no operands.
+fn leaf_variant(expression: &Expression) -> Option<u8>
+    ensures { MatchOption result (11 ≤ (spec.label_of (spec.shape expression.now)).variant) (λ k. k ≡ (spec.label_of (spec.shape expression.now)).variant) }
+{
+    match expression {
+        Expression::Number(_) => Some(0),
+        Expression::LocationCounter => Some(1),
+        Expression::SizeofHeaders => Some(2),
+        Expression::Symbol(_) => Some(3),
+        Expression::Sizeof(_) => Some(4),
+        Expression::Alignof(_) => Some(5),
+        Expression::Addr(_) => Some(6),
+        Expression::Loadaddr(_) => Some(7),
+        Expression::Origin(_) => Some(8),
+        Expression::Length(_) => Some(9),
+        Expression::Defined(_) => Some(10),
+        _ => None,
+    }
+}
+
 fn variant(expression: &Expression) -> u8
     ensures { result ≡ (spec.label_of (spec.shape expression.now)).variant }
 {
+    if let Some(variant) = leaf_variant(expression) {
+        return variant;
+    }
     match expression {
-        Expression::Number(_) => 0,
-        Expression::LocationCounter => 1,
-        Expression::SizeofHeaders => 2,
-        Expression::Symbol(_) => 3,
-        Expression::Sizeof(_) => 4,
-        Expression::Alignof(_) => 5,
-        Expression::Addr(_) => 6,
-        Expression::Loadaddr(_) => 7,
-        Expression::Origin(_) => 8,
-        Expression::Length(_) => 9,
-        Expression::Defined(_) => 10,
         Expression::LogicalOr(_, _) => 11,
         Expression::LogicalAnd(_, _) => 12,
         Expression::LessEqual(_, _) => 13,
@@ -49,6 +61,7 @@ fn variant(expression: &Expression) -> u8
         Expression::Align(_, _) => 35,
         Expression::SegmentStart(_, _) => 36,
         Expression::Assert(_) => 37,
+        _ => 0,
     }
 }
 
