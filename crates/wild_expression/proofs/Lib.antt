@@ -4,3 +4,4 @@ pub mod Operations
 pub mod Weights
 pub mod Calls
 pub mod Levels
+pub mod Places

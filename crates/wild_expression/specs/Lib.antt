@@ -4,3 +4,4 @@ pub mod Quotes
 pub mod Operators
 pub mod Words
 pub mod Grammar
+pub mod Readings

@@ -7,6 +7,7 @@ mod literal;
 mod measured;
 mod operators;
 mod quotes;
+mod readings;
 mod tree;
 mod values;
 mod words;
@@ -14,9 +15,12 @@ mod words;
 pub use bytes::Piece;
 pub use measured::Measured;
 pub use operators::{Level, Operator, Sign};
+pub use readings::read_expression;
 pub use tree::{AssertCommand, Expression, SegmentName};
 pub use values::value;
 pub use words::{Call, Extreme, Head, Question};
 
+#[cfg(test)]
+mod expression_tests;
 #[cfg(test)]
 mod leaf_tests;
