@@ -6,3 +6,4 @@ pub mod Weights
 pub mod Calls
 pub mod Levels
 pub mod Rebuilt
+pub mod Places

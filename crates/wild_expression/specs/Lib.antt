@@ -5,3 +5,4 @@ pub mod Equality
 pub mod Operators
 pub mod Words
 pub mod Grammar
+pub mod Readings
