@@ -1,0 +1,9 @@
+pub mod Numbers
+pub mod Passing
+pub mod Shapes
+pub mod Operations
+pub mod Weights
+pub mod Calls
+pub mod Levels
+pub mod Rebuilt
+pub mod Places

@@ -1,0 +1,52 @@
+-- What is read at the place of a new cursor is read from its position.
+use Rattle.std.proofs.Common.{◌≡◌, ℕ, ◌≤◌, length, subst, sym, ◌∙◌, ap}
+use Rattle.wild_reading.specs.Place.{Bytes, Text, Place}
+use Rattle.wild_reading.specs.Only.{IsOnly, Refuses, IsCause}
+use Rattle.wild_reading.specs.declared.stop.Stop.{Stop}
+use Rattle.wild_reading.specs.declared.stop.Stop.TheVariants.{Syntax, OpenComment, NestedSort, TooDeep, NoMemory}
+use Rattle.wild_expression.specs.declared.tree.Expression.{Expression}
+use Rattle.wild_expression.specs.declared.measured.Measured.{Measured}
+use Rattle.wild_expression.specs.declared.operators.Level.TheVariants.{Ternary}
+use Rattle.wild_expression.specs.Grammar.{value}
+use Rattle.wild_expression.specs.Readings.{reads_within, IsExpression, HasNone, Never, IsRefusal}
+
+module _ {b : Bytes} {i : ℕ} {s : Place} (w : s.text ≡ record { bytes = b; start = i; limit = 256 }) (g : s.at ≡ i) (l : s.left ≡ 256) where
+  same_bytes : s.text.bytes ≡ b
+  same_bytes = ap (λ (t : Text). t.bytes) w
+
+  from_place : (limit : ℕ) (x : Measured) (j : ℕ) → value Ternary s.text.bytes limit s.at x j → value Ternary b limit i x j
+  from_place limit x j h = subst (λ (n : ℕ). value Ternary b limit n x j) g (subst (λ (n : Bytes). value Ternary n limit s.at x j) same_bytes h)
+
+  to_place : (limit : ℕ) (x : Measured) (j : ℕ) → value Ternary b limit i x j → value Ternary s.text.bytes limit s.at x j
+  to_place limit x j h = subst (λ (n : ℕ). value Ternary s.text.bytes limit n x j) (sym g) (subst (λ (n : Bytes). value Ternary n limit i x j) (sym same_bytes) h)
+
+  here : {x : Measured} {r : Place} → IsOnly (value Ternary) s x r → reads_within 256 b i x.expression r.at
+  unfolding reads_within
+  here {x} {r} p = (x.depth, subst (λ (n : ℕ). value Ternary b n i x r.at) l (from_place s.left x r.at p.reads))
+
+  one : {x : Measured} {r : Place} → IsOnly (value Ternary) s x r → (limit : ℕ) (y : Expression) (k : ℕ) → reads_within limit b i y k → (y ≡ x.expression) × (k ≡ r.at)
+  unfolding reads_within
+  one {x} {r} p limit y k h =
+      let same = p.only limit (record { expression = y; depth = h.0 }) k (to_place limit (record { expression = y; depth = h.0 }) k h.1) in
+      (ap (λ (m : Measured). m.expression) same.0, same.1)
+
+  pub one_expression : {x : Measured} {r : Place} {y : Expression} {j : ℕ} → y ≡ x.expression → j ≡ r.at → j ≤ length r.text.bytes → IsOnly (value Ternary) s x r → IsExpression b i y j
+  one_expression {x} {r} {y} {j} e k h p =
+      let at_end : r.at ≤ length b = subst (λ (n : ℕ). n ≤ length b) k (subst (λ (c : Bytes). j ≤ length c) (ap (λ (t : Text). t.bytes) (p.text ∙ w)) h) in
+      let all : IsExpression b i x.expression r.at = record { is = here p; only = one p; forward = subst (λ (n : ℕ). n ≤ r.at) g p.forward; within = at_end } in
+      subst (λ (z : Expression). IsExpression b i z j) (sym e) (subst (λ (n : ℕ). IsExpression b i x.expression n) (sym k) all)
+
+  never : ((limit : ℕ) (x : Measured) (j : ℕ) → value Ternary s.text.bytes limit s.at x j → ⊥) → Never b i
+  unfolding reads_within
+  never h limit x j k = h limit (record { expression = x; depth = k.0 }) j (to_place limit (record { expression = x; depth = k.0 }) j k.1)
+
+  none : ((x : Measured) (j : ℕ) → value Ternary s.text.bytes s.left s.at x j → ⊥) → HasNone 256 b i
+  unfolding reads_within
+  none h x j k = h (record { expression = x; depth = k.0 }) j (subst (λ (n : ℕ). value Ternary s.text.bytes n s.at (record { expression = x; depth = k.0 }) j) (sym l) (to_place 256 (record { expression = x; depth = k.0 }) j k.1))
+
+  pub no_expression : (stop : Stop) → Refuses (value Ternary) s stop → IsRefusal b i stop
+  no_expression (Syntax n) p = (never (p.never tt), subst (λ (t : Text). IsCause (Syntax n) t) w p.cause)
+  no_expression (OpenComment n) p = (never (p.never tt), subst (λ (t : Text). IsCause (OpenComment n) t) w p.cause)
+  no_expression (NestedSort n) p = (never (p.never tt), subst (λ (t : Text). IsCause (NestedSort n) t) w p.cause)
+  no_expression (TooDeep n) p = (none (p.none tt), subst (λ (t : Text). IsCause (TooDeep n) t) w p.cause)
+  no_expression NoMemory p = tt

@@ -1,0 +1,110 @@
+use crate::readings::read_expression;
+use std::alloc::{AllocError, Global};
+use std::test::Fail;
+use wild_reading::Stop;
+
+// The position behind the expression at the start, or where it is not read.
+fn end(alloc: Global, text: &[u8]) -> Result<usize, Stop> {
+    let (_expression, end) = read_expression(alloc, text, 0)?;
+    Ok(end)
+}
+
+fn syntax(position: usize) -> Result<usize, Stop> {
+    Err(Stop::Syntax { position })
+}
+
+#[test]
+fn ends(rt: HostRuntime) -> Result<(), Fail> {
+    let cases: [(&[u8], Result<usize, Stop>); 26] = [
+        (b"a ? b : c", Ok(9)),
+        (b"a ? b", syntax(5)),
+        (b"1 < 2 < 3", Ok(6)),
+        (b" ( 1 ) ;", Ok(7)),
+        (b"- ! ~ 1", Ok(7)),
+        (b"!= 1", syntax(0)),
+        (b"a || b", Ok(6)),
+        (b"a | | b", syntax(4)),
+        (b"a & & b", syntax(4)),
+        (b"1 <<2>> 3", Ok(9)),
+        (b". ( 1", Ok(2)),
+        (b"SIZEOF_HEADERS ", Ok(15)),
+        (b"SIZEOF_HEADERS(", syntax(14)),
+        (b"SIZEOF( .text ) + 1", Ok(19)),
+        (b"ALIGN(8)", Ok(8)),
+        (b"ALIGN(., 8)", Ok(11)),
+        (b"MIN(1, MAX(2, 3))", Ok(17)),
+        (b"MIN(1)", syntax(5)),
+        (b"SEGMENT_START(\"text-segment\", 0x80)", Ok(35)),
+        (b"SEGMENT_START(\"\", 0x80)", syntax(15)),
+        (b"ASSERT ( /* c */ 1 # d\n, \"m\" ) /* e */ + 2", Ok(42)),
+        (b"ASSERT(1 /* c */, m)", syntax(10)),
+        (b"ASSERT(1, m /* c", Err(Stop::OpenComment { position: 12 })),
+        (b"foo(1)", syntax(3)),
+        (b"", syntax(0)),
+        (b"1 /* c */", syntax(3)),
+    ];
+    for (text, expected) in cases {
+        assert_eq!(rt; end(rt.alloc(), text), expected, "{text:?}");
+    }
+    Ok(())
+}
+
+// The expression at the start as its derived text.
+fn shown(alloc: Global, text: &[u8]) -> Result<String, Fail> {
+    match read_expression(alloc, text, 0) {
+        Ok((expression, _end)) => Ok(format!(in alloc; "{expression:?}")?),
+        Err(stop) => Ok(format!(in alloc; "{stop:?}")?),
+    }
+}
+
+#[test]
+fn trees(rt: HostRuntime) -> Result<(), Fail> {
+    let cases: [(&[u8], &str); 3] = [
+        (
+            b"0xFF & 0x0F == 0x0F",
+            "Equal(Boxed { inner: BitwiseAnd(Boxed { inner: Number(255) }, Boxed { inner: Number(15) }) }, Boxed { inner: Number(15) })",
+        ),
+        (
+            b"3 - 2 - 1",
+            "Subtract(Boxed { inner: Subtract(Boxed { inner: Number(3) }, Boxed { inner: Number(2) }) }, Boxed { inner: Number(1) })",
+        ),
+        (
+            b"ALIGN(., 8)",
+            "Align(Boxed { inner: Number(8) }, Some(Boxed { inner: LocationCounter }))",
+        ),
+    ];
+    for (text, expected) in cases {
+        assert_eq!(rt; shown(rt.alloc(), text)?.as_str(), expected);
+    }
+    Ok(())
+}
+
+// So many of a byte, and the rest.
+fn deep(alloc: Global, byte: u8, count: usize, rest: &[u8]) -> Result<Vec<u8>, AllocError> {
+    let mut text = Vec::new(alloc);
+    for _ in 0..count {
+        text.push(byte)?;
+    }
+    for byte in rest {
+        text.push(*byte)?;
+    }
+    Ok(text)
+}
+
+#[test]
+fn depths(rt: HostRuntime) -> Result<(), Fail> {
+    let alloc = rt.alloc();
+    let signs = deep(alloc, b'-', 256, b"1")?;
+    assert_eq!(rt; end(alloc, signs.as_slice()), Ok(257));
+    let more = deep(alloc, b'-', 257, b"1")?;
+    assert_eq!(rt;
+        end(alloc, more.as_slice()),
+        Err(Stop::TooDeep { position: 257 })
+    );
+    let brackets = deep(alloc, b'(', 1_048_576, b"")?;
+    assert_eq!(rt;
+        end(alloc, brackets.as_slice()),
+        Err(Stop::TooDeep { position: 257 })
+    );
+    Ok(())
+}
