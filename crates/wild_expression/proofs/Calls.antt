@@ -1,6 +1,6 @@
 -- A call by its word, or nothing.
 use Rattle.std.proofs.Common.{◌≡◌, ℕ, ◌≤◌, length, sym, subst, Option, Some, None}
-use Rattle.std.specs.Prelude.{Result, Ok, Err}
+use Rattle.std.specs.Prelude.{Ok, Err}
 use Rattle.wild_reading.specs.Place.{Place}
 use Rattle.wild_reading.specs.Only.{Answers}
 use Rattle.wild_reading.specs.declared.stop.Stop.TheVariants.{Syntax}

@@ -1,7 +1,7 @@
 -- The levels, one below the other, and that each uses what is read one deeper at the limit that is given.
-use Rattle.std.proofs.Common.{◌≡◌, ◌≤◌, ◌<◌, ℕ, ◌+◌, true, refl, sym, subst, Result, Ok, arith}
+use Rattle.std.proofs.Common.{◌≡◌, ◌≤◌, ℕ, ◌+◌, true, refl, sym, subst, Result, Ok, arith}
 use Rattle.wild_reading.specs.Place.{Place}
-use Rattle.wild_reading.specs.Reader.{Reader, Give}
+use Rattle.wild_reading.specs.Reader.{Reader}
 use Rattle.wild_reading.specs.Only.{Answers}
 use Rattle.wild_reading.specs.declared.stop.Stop.{Stop}
 use Rattle.wild_reading.proofs.Readers.{IsInner, answers_ok, give_only}
@@ -17,7 +17,7 @@ use Rattle.wild_expression.specs.declared.words.Head.TheVariants as h
 use Rattle.wild_expression.specs.declared.tree.Expression.{Expression}
 use Rattle.wild_expression.specs.declared.measured.Measured.{Measured}
 use Rattle.wild_expression.specs.Operators.{operand, is_layer, is_chain}
-use Rattle.wild_expression.specs.Grammar.{Values, lone, question, brackets_of, pair_of, align_counter, align_value_of, align_rest_of, align_of, segment_start_of, assert_of, arguments_of, behind_of, primary_of, signed_of, signed_or_primary_of, sign_of, step_of, chain_of, alone, comparison_of, alternatives_of, ternary_of, rest_of, layer_of, product_of, sum_of, shift_of, bitwise_and_of, bitwise_xor_of, bitwise_or_of, compared_of, logical_and_of, logical_or_of, whole_of, value_of, inner_value, value, brackets, pair, align_value, align_rest, align, segment_start, assert, arguments, behind, primary, signed, signed_or_primary, sign_level, step, chain, comparison, alternatives, ternary, rest, layer}
+use Rattle.wild_expression.specs.Grammar.{Values, lone, question, brackets_of, pair_of, align_value_of, align_rest_of, align_of, segment_start_of, assert_of, arguments_of, behind_of, primary_of, signed_of, signed_or_primary_of, sign_of, step_of, chain_of, alone, comparison_of, alternatives_of, ternary_of, rest_of, layer_of, product_of, sum_of, shift_of, bitwise_and_of, bitwise_xor_of, bitwise_or_of, compared_of, logical_and_of, logical_or_of, whole_of, value_of, inner_value, value, brackets, pair, align, segment_start, assert, arguments, behind, sign_level, step, chain, comparison, ternary, rest, layer}
 
 -- ---- parts use what is read one deeper at the limit that is given
 

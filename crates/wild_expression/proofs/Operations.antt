@@ -1,8 +1,8 @@
 -- An operator or a sign is read by its bytes, the first of which is a mark.
-use Rattle.std.proofs.Common.{◌≡◌, ◌≤◌, ◌<◌, ◌+◌, ℕ, Bool, true, false, List, length, arith, refl, sym, subst, ap, ◌∙◌, Option, Some, None}
-use Rattle.std.specs.Prelude.{slice_get, Result, Ok, Err}
+use Rattle.std.proofs.Common.{◌≡◌, ◌≤◌, ◌+◌, ℕ, Bool, true, false, length, arith, refl, sym, subst, ◌∙◌, Option, Some, None}
+use Rattle.std.specs.Prelude.{slice_get, Ok, Err}
 use Rattle.std.proofs.lemmas.Grind.{common_steps}
-use Rattle.wild_reading.specs.Place.{Bytes, Text, Place, IsPaid, IsMarked, is_mark, mark_count, ahead}
+use Rattle.wild_reading.specs.Place.{Bytes, Text, Place, IsPaid, IsMarked, is_mark, mark_count}
 use Rattle.wild_reading.specs.Bytes.{begins, is_byte}
 use Rattle.wild_reading.specs.Reader.{Reader}
 use Rattle.wild_reading.specs.Lex.{byte, after_byte}
@@ -15,7 +15,7 @@ use Rattle.wild_expression.specs.declared.operators.Level.{Level}
 use Rattle.wild_expression.specs.declared.operators.Level.TheVariants as l
 use Rattle.wild_expression.specs.declared.operators.Operator.{Operator}
 use Rattle.wild_expression.specs.declared.operators.Sign.{Sign}
-use Rattle.wild_expression.specs.Operators.{operator_of, operator_from, operator_found, operator_at, operator, width, first_byte, sign_of, sign_found, sign_at, sign, sign_byte, behind, behind_sign}
+use Rattle.wild_expression.specs.Operators.{operator_of, operator_from, operator_found, operator_at, operator, width, first_byte, sign_of, sign_found, sign_at, sign, sign_byte, behind}
 use Rattle.wild_expression.proofs.Passing.{passed_less}
 
 -- ---- a byte that stands there

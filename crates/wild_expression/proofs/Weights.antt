@@ -1,10 +1,10 @@
 -- What is read costs as many marks as it is deep.
-use Rattle.std.proofs.Common.{◌≡◌, ◌≤◌, ◌<◌, ◌+◌, ℕ, true, zero, suc, arith, refl, sym, subst, ap, ◌∙◌, Result}
+use Rattle.std.proofs.Common.{◌≡◌, ◌≤◌, ◌<◌, ◌+◌, ℕ, true, zero, suc, arith, refl, sym, subst}
 use Rattle.std.specs.Prelude.{max}
 use Rattle.wild_reading.specs.Place.{Text, Place, IsPaid, IsMarked, is_mark}
 use Rattle.wild_reading.specs.Reader.{Reader}
 use Rattle.wild_reading.specs.Lex.{byte}
-use Rattle.wild_reading.specs.Family.{room, HasRoom}
+use Rattle.wild_reading.specs.Family.{room}
 use Rattle.wild_reading.specs.Only.{IsOnly, Refuses, IsInside, Leaves}
 use Rattle.wild_reading.specs.declared.stop.Stop.{Stop}
 use Rattle.wild_reading.proofs.Readers.{cause_same}

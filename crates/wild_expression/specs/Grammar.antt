@@ -1,7 +1,7 @@
 -- The grammar of expressions, and how deep each is.
-use Rattle.std.specs.Prelude.{◌≡◌, ℕ, ◌+◌, ◌≤◌, max, Bool, true, false, if◌then◌else◌, List, Option, Some, None, codes}
+use Rattle.std.specs.Prelude.{ℕ, ◌+◌, ◌≤◌, max, if◌then◌else◌, List, Some, None, codes}
 use Rattle.std.specs.Str.{bytes_eq}
-use Rattle.wild_reading.specs.Place.{Bytes, Place, IsPaid}
+use Rattle.wild_reading.specs.Place.{Place, IsPaid}
 use Rattle.wild_reading.specs.Bytes.{begins}
 use Rattle.wild_reading.specs.Reader.{Reader, ◌>>=◌, ◌>>◌, Give, here, Takes, Choice}
 use Rattle.wild_reading.specs.Lex.{white, byte, gap, symbol, name}

@@ -1,7 +1,6 @@
 -- What an expression without operators begins with: a number, a name, or what stands before a bracket.
-use Rattle.std.specs.Prelude.{ℕ, Bool, true, false, if◌then◌else◌, List, Option, Some, None, codes}
+use Rattle.std.specs.Prelude.{ℕ, Bool, if◌then◌else◌, List, Option, Some, None, codes}
 use Rattle.std.specs.Str.{bytes_eq}
-use Rattle.wild_reading.specs.Place.{Bytes}
 use Rattle.wild_reading.specs.Bytes.{begins}
 use Rattle.wild_reading.specs.Reader.{Reader, ◌>>=◌, ◌>>◌, Give, Nothing, Takes, Choice, If}
 use Rattle.wild_reading.specs.Lex.{white}
@@ -9,7 +8,6 @@ use Rattle.wild_expression.specs.Identifier.{identifier_at, begins_digit}
 use Rattle.wild_expression.specs.Literal.{literal_at}
 use Rattle.wild_expression.specs.declared.tree.Expression.{Expression}
 use Rattle.wild_expression.specs.declared.tree.Expression.TheVariants as e
-use Rattle.wild_expression.specs.declared.words.Question.{Question}
 use Rattle.wild_expression.specs.declared.words.Question.TheVariants as q
 use Rattle.wild_expression.specs.declared.words.Extreme.TheVariants.{Min, Max}
 use Rattle.wild_expression.specs.declared.words.Call.{Call}

@@ -19,7 +19,7 @@ pub use measured::Measured;
 pub use operators::{Level, Operator, Sign};
 pub use readings::read_expression;
 pub use tree::{AssertCommand, Expression, SegmentName};
-pub use values::value;
+pub use values::{inner_value, value};
 pub use words::{Call, Extreme, Head, Question};
 
 #[cfg(test)]

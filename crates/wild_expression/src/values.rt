@@ -64,8 +64,9 @@ fn enclosed(cursor: &mut Cursor<'_>, alloc: Global, level: Level) -> Result<Meas
     Ok(x)
 }
 
+/// Reads an expression of a level, and the white behind it, one deeper: a mark that deepens it was read before.
 #[cycle(values)]
-fn inner_value(cursor: &mut Cursor<'_>, alloc: Global, level: Level) -> Result<Measured, Stop>
+pub fn inner_value(cursor: &mut Cursor<'_>, alloc: Global, level: Level) -> Result<Measured, Stop>
     requires { IsMarked cursor.old }
     ensures read { Answers (spec.inner_value level) cursor.old cursor.new result }
     ensures deep { IfOk result (λ x. x.depth < cursor.old.left) }
