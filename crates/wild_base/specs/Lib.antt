@@ -2,3 +2,4 @@ pub mod Alignment
 pub mod Fault
 pub mod InputFlags
 pub mod Numbering
+pub mod SegmentNames

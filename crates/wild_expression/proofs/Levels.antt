@@ -6,17 +6,17 @@ use Rattle.wild_reading.specs.Only.{Answers}
 use Rattle.wild_reading.specs.declared.stop.Stop.{Stop}
 use Rattle.wild_reading.proofs.Readers.{IsInner, answers_ok, give_only}
 use Rattle.wild_reading.proofs.Families.{AreLocal, key_local, fixed_local, then_are_local, choice_are_local, fold_are_local, inner_at}
-use Rattle.wild_expression.specs.declared.operators.Level.{Level}
-use Rattle.wild_expression.specs.declared.operators.Level.TheVariants as l
-use Rattle.wild_expression.specs.declared.words.Call.{Call}
-use Rattle.wild_expression.specs.declared.words.Call.TheVariants as c
-use Rattle.wild_expression.specs.declared.words.Extreme.{Extreme}
-use Rattle.wild_expression.specs.declared.words.Question.{Question}
-use Rattle.wild_expression.specs.declared.words.Head.{Head}
-use Rattle.wild_expression.specs.declared.words.Head.TheVariants as h
-use Rattle.wild_expression.specs.declared.tree.Expression.{Expression}
+use Rattle.wild_expression_words.specs.declared.operators.Level.{Level}
+use Rattle.wild_expression_words.specs.declared.operators.Level.TheVariants as l
+use Rattle.wild_expression_words.specs.declared.words.Call.{Call}
+use Rattle.wild_expression_words.specs.declared.words.Call.TheVariants as c
+use Rattle.wild_expression_words.specs.declared.words.Extreme.{Extreme}
+use Rattle.wild_expression_words.specs.declared.words.Question.{Question}
+use Rattle.wild_expression_words.specs.declared.words.Head.{Head}
+use Rattle.wild_expression_words.specs.declared.words.Head.TheVariants as h
+use Rattle.wild_expression_tree.specs.declared.tree.Expression.{Expression}
 use Rattle.wild_expression.specs.declared.measured.Measured.{Measured}
-use Rattle.wild_expression.specs.Operators.{operand, is_layer, is_chain}
+use Rattle.wild_expression_words.specs.Operators.{operand, is_layer, is_chain}
 use Rattle.wild_expression.specs.Grammar.{Values, lone, question, brackets_of, pair_of, align_value_of, align_rest_of, align_of, segment_start_of, assert_of, arguments_of, behind_of, primary_of, signed_of, signed_or_primary_of, sign_of, step_of, chain_of, alone, comparison_of, alternatives_of, ternary_of, rest_of, layer_of, product_of, sum_of, shift_of, bitwise_and_of, bitwise_xor_of, bitwise_or_of, compared_of, logical_and_of, logical_or_of, whole_of, value_of, inner_value, value, brackets, pair, align, segment_start, assert, arguments, behind, sign_level, step, chain, comparison, ternary, rest, layer}
 
 -- ---- parts use what is read one deeper at the limit that is given

@@ -1,9 +1,5 @@
-pub mod Numbers
-pub mod Passing
-pub mod Shapes
-pub mod Operations
 pub mod Weights
-pub mod Calls
 pub mod Levels
-pub mod Rebuilt
 pub mod Places
+pub mod Shorter
+pub mod ChainLists

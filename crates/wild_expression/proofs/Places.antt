@@ -1,14 +1,22 @@
 -- What is read at the place of a new cursor is read from its position.
-use Rattle.std.proofs.Common.{◌≡◌, ℕ, ◌≤◌, length, subst, sym, ◌∙◌, ap}
-use Rattle.wild_reading.specs.Place.{Bytes, Text, Place}
+use Rattle.std.proofs.Common.{◌≡◌, ◌⊎◌, ℕ, ◌≤◌, ◌<◌, ◌-◌, length, subst, sym, ◌∙◌, ap, inl, inr, refl, arith}
+use Rattle.wild_base.specs.declared.fault.Fault.TheVariants as fault
+use Rattle.wild_reading.specs.Place.{Bytes, Text, Place, ahead}
 use Rattle.wild_reading.specs.Only.{IsOnly, Refuses, IsCause}
 use Rattle.wild_reading.specs.declared.stop.Stop.{Stop}
 use Rattle.wild_reading.specs.declared.stop.Stop.TheVariants.{Syntax, OpenComment, NestedSort, TooDeep, NoMemory}
-use Rattle.wild_expression.specs.declared.tree.Expression.{Expression}
+use Rattle.wild_expression_tree.specs.declared.tree.Expression.{Expression}
 use Rattle.wild_expression.specs.declared.measured.Measured.{Measured}
-use Rattle.wild_expression.specs.declared.operators.Level.TheVariants.{Ternary}
+use Rattle.wild_expression_words.specs.declared.operators.Level.TheVariants.{Ternary}
 use Rattle.wild_expression.specs.Grammar.{value}
-use Rattle.wild_expression.specs.Readings.{reads_within, IsExpression, HasNone, Never, IsRefusal}
+use Rattle.wild_expression.specs.Readings.{plain_fault, reads_within, IsExpression, HasNone, Never, IsRefusal}
+
+-- less is ahead further on alone
+behind : {s r : Place} → r.text ≡ s.text → ahead r < ahead s → s.at < r.at
+unfolding ahead
+behind {s} {r} e h =
+    let same : length r.text.bytes ≡ length s.text.bytes = ap (λ (t : Text). length t.bytes) e in
+    omega (arith, h, same)
 
 module _ {b : Bytes} {i : ℕ} {s : Place} (w : s.text ≡ record { bytes = b; start = i; limit = 256 }) (g : s.at ≡ i) (l : s.left ≡ 256) where
   same_bytes : s.text.bytes ≡ b
@@ -30,10 +38,10 @@ module _ {b : Bytes} {i : ℕ} {s : Place} (w : s.text ≡ record { bytes = b; s
       let same = p.only limit (record { expression = y; depth = h.0 }) k (to_place limit (record { expression = y; depth = h.0 }) k h.1) in
       (ap (λ (m : Measured). m.expression) same.0, same.1)
 
-  pub one_expression : {x : Measured} {r : Place} {y : Expression} {j : ℕ} → y ≡ x.expression → j ≡ r.at → j ≤ length r.text.bytes → IsOnly (value Ternary) s x r → IsExpression b i y j
-  one_expression {x} {r} {y} {j} e k h p =
+  pub one_expression : {x : Measured} {r : Place} {y : Expression} {j : ℕ} → y ≡ x.expression → j ≡ r.at → j ≤ length r.text.bytes → ahead r < ahead s → IsOnly (value Ternary) s x r → IsExpression b i y j
+  one_expression {x} {r} {y} {j} e k h d p =
       let at_end : r.at ≤ length b = subst (λ (n : ℕ). n ≤ length b) k (subst (λ (c : Bytes). j ≤ length c) (ap (λ (t : Text). t.bytes) (p.text ∙ w)) h) in
-      let all : IsExpression b i x.expression r.at = record { is = here p; only = one p; forward = subst (λ (n : ℕ). n ≤ r.at) g p.forward; within = at_end } in
+      let all : IsExpression b i x.expression r.at = record { is = here p; only = one p; forward = subst (λ (n : ℕ). n < r.at) g (behind p.text d); within = at_end } in
       subst (λ (z : Expression). IsExpression b i z j) (sym e) (subst (λ (n : ℕ). IsExpression b i x.expression n) (sym k) all)
 
   never : ((limit : ℕ) (x : Measured) (j : ℕ) → value Ternary s.text.bytes limit s.at x j → ⊥) → Never b i
@@ -44,9 +52,9 @@ module _ {b : Bytes} {i : ℕ} {s : Place} (w : s.text ≡ record { bytes = b; s
   unfolding reads_within
   none h x j k = h (record { expression = x; depth = k.0 }) j (subst (λ (n : ℕ). value Ternary s.text.bytes n s.at (record { expression = x; depth = k.0 }) j) (sym l) (to_place 256 (record { expression = x; depth = k.0 }) j k.1))
 
-  pub no_expression : (stop : Stop) → Refuses (value Ternary) s stop → IsRefusal b i stop
-  no_expression (Syntax n) p = (never (p.never tt), subst (λ (t : Text). IsCause (Syntax n) t) w p.cause)
-  no_expression (OpenComment n) p = (never (p.never tt), subst (λ (t : Text). IsCause (OpenComment n) t) w p.cause)
-  no_expression (NestedSort n) p = (never (p.never tt), subst (λ (t : Text). IsCause (NestedSort n) t) w p.cause)
-  no_expression (TooDeep n) p = (none (p.none tt), subst (λ (t : Text). IsCause (TooDeep n) t) w p.cause)
-  no_expression NoMemory p = tt
+  pub no_expression : (stop : Stop) → Refuses (value Ternary) s stop → (plain_fault stop ≡ fault.NoMemory) ⊎ IsRefusal b i (plain_fault stop)
+  no_expression (Syntax n) p = inr (never (p.never tt), subst (λ (t : Text). IsCause (Syntax n) t) w p.cause)
+  no_expression (OpenComment n) p = inr (never (p.never tt), subst (λ (t : Text). IsCause (OpenComment n) t) w p.cause)
+  no_expression (NestedSort n) p = inr (never (p.never tt), (subst (λ (t : Text). IsCause (NestedSort n) t) w p.cause).within)
+  no_expression (TooDeep n) p = inr (none (p.none tt), subst (λ (t : Text). IsCause (TooDeep n) t) w p.cause)
+  no_expression NoMemory p = inl refl

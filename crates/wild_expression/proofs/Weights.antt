@@ -9,12 +9,12 @@ use Rattle.wild_reading.specs.Only.{IsOnly, Refuses, IsInside, Leaves}
 use Rattle.wild_reading.specs.declared.stop.Stop.{Stop}
 use Rattle.wild_reading.proofs.Readers.{cause_same}
 use Rattle.wild_reading.proofs.Marks.{paid_on}
-use Rattle.wild_expression.specs.declared.operators.Level.{Level}
-use Rattle.wild_expression.specs.declared.operators.Operator.{Operator}
-use Rattle.wild_expression.specs.Operators.{operator}
+use Rattle.wild_expression_words.specs.declared.operators.Level.{Level}
+use Rattle.wild_expression_words.specs.declared.operators.Operator.{Operator}
+use Rattle.wild_expression_words.specs.Operators.{operator}
 use Rattle.wild_expression.specs.declared.measured.Measured.{Measured}
 use Rattle.wild_expression.specs.Grammar.{IsCovered}
-use Rattle.wild_expression.proofs.Operations.{operator_pays, byte_pays}
+use Rattle.wild_expression_words.proofs.Operations.{operator_pays, byte_pays}
 
 pub paid_less : {more less : ℕ} {s : Place} → less ≤ more → IsPaid more s → IsPaid less s
 paid_less h p = record { paid = omega (arith, p.paid) }

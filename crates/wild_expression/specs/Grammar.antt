@@ -6,25 +6,24 @@ use Rattle.wild_reading.specs.Bytes.{begins}
 use Rattle.wild_reading.specs.Reader.{Reader, ◌>>=◌, ◌>>◌, Give, here, Takes, Choice}
 use Rattle.wild_reading.specs.Lex.{white, byte, gap, symbol, name}
 use Rattle.wild_reading.specs.Family.{InsideAt, room, Folds}
-use Rattle.wild_expression.specs.Quotes.{quoted_name_at}
-use Rattle.wild_expression.specs.Operators.{operand, operator, ends, node, sign, is_signed, signed_node}
-use Rattle.wild_expression.specs.Words.{identifier, head}
-use Rattle.wild_expression.specs.declared.tree.Expression.{Expression}
-use Rattle.wild_expression.specs.declared.tree.Expression.TheVariants as e
-use Rattle.wild_expression.specs.declared.tree.SegmentName.{SegmentName}
-use Rattle.wild_expression.specs.declared.tree.SegmentName.TheVariants as segment
-use Rattle.wild_expression.specs.declared.operators.Level.{Level}
-use Rattle.wild_expression.specs.declared.operators.Level.TheVariants as l
-use Rattle.wild_expression.specs.declared.operators.Operator.{Operator}
-use Rattle.wild_expression.specs.declared.operators.Sign.{Sign}
-use Rattle.wild_expression.specs.declared.words.Question.{Question}
-use Rattle.wild_expression.specs.declared.words.Question.TheVariants as q
-use Rattle.wild_expression.specs.declared.words.Extreme.{Extreme}
-use Rattle.wild_expression.specs.declared.words.Extreme.TheVariants.{Min, Max}
-use Rattle.wild_expression.specs.declared.words.Call.{Call}
-use Rattle.wild_expression.specs.declared.words.Call.TheVariants as c
-use Rattle.wild_expression.specs.declared.words.Head.{Head}
-use Rattle.wild_expression.specs.declared.words.Head.TheVariants as h
+use Rattle.wild_expression_words.specs.Quotes.{quoted_name_at}
+use Rattle.wild_expression_words.specs.Operators.{operand, operator, ends, node, sign, is_signed, signed_node}
+use Rattle.wild_expression_words.specs.Words.{identifier, head}
+use Rattle.wild_expression_tree.specs.declared.tree.Expression.{Expression}
+use Rattle.wild_expression_tree.specs.declared.tree.Expression.TheVariants as e
+use Rattle.wild_base.specs.SegmentNames.{segment_of}
+use Rattle.wild_expression_words.specs.declared.operators.Level.{Level}
+use Rattle.wild_expression_words.specs.declared.operators.Level.TheVariants as l
+use Rattle.wild_expression_words.specs.declared.operators.Operator.{Operator}
+use Rattle.wild_expression_words.specs.declared.operators.Sign.{Sign}
+use Rattle.wild_expression_words.specs.declared.words.Question.{Question}
+use Rattle.wild_expression_words.specs.declared.words.Question.TheVariants as q
+use Rattle.wild_expression_words.specs.declared.words.Extreme.{Extreme}
+use Rattle.wild_expression_words.specs.declared.words.Extreme.TheVariants.{Min, Max}
+use Rattle.wild_expression_words.specs.declared.words.Call.{Call}
+use Rattle.wild_expression_words.specs.declared.words.Call.TheVariants as c
+use Rattle.wild_expression_words.specs.declared.words.Head.{Head}
+use Rattle.wild_expression_words.specs.declared.words.Head.TheVariants as h
 use Rattle.wild_expression.specs.declared.measured.Measured.{Measured}
 
 -- ---- nodes with their depths
@@ -54,12 +53,6 @@ aligned_counter x = record { expression = e.Align x.expression None; depth = x.d
 -- the value, then the alignment
 abbrev pub aligned_value : Measured → Measured → Measured
 aligned_value x y = record { expression = e.Align y.expression (Some x.expression); depth = max x.depth y.depth + 1 }
-
-abbrev pub segment_of : List ℕ → SegmentName
-segment_of w =
-    if bytes_eq w (codes "text-segment") then segment.Text else (
-    if bytes_eq w (codes "data-segment") then segment.Data else (
-    if bytes_eq w (codes "bss-segment") then segment.Bss else segment.Unknown))
 
 abbrev pub started : List ℕ → Measured → Measured
 started w x = record { expression = e.SegmentStart (segment_of w) x.expression; depth = x.depth + 1 }

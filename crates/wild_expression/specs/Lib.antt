@@ -1,8 +1,4 @@
-pub mod Identifier
-pub mod Literal
-pub mod Quotes
-pub mod Equality
-pub mod Operators
-pub mod Words
 pub mod Grammar
 pub mod Readings
+pub mod Parts
+pub mod Chains

@@ -1,21 +1,21 @@
-use crate::readings::read_expression;
+use crate::readings::parse_expression;
 use std::alloc::{AllocError, Global};
 use std::test::Fail;
-use wild_reading::Stop;
+use wild_base::Fault;
 
 // The position behind the expression at the start, or where it is not read.
-fn end(alloc: Global, text: &[u8]) -> Result<usize, Stop> {
-    let (_expression, end) = read_expression(alloc, text, 0)?;
+fn end(alloc: Global, text: &[u8]) -> Result<usize, Fault> {
+    let (_expression, end) = parse_expression(alloc, text, 0)?;
     Ok(end)
 }
 
-fn syntax(position: usize) -> Result<usize, Stop> {
-    Err(Stop::Syntax { position })
+fn syntax(position: usize) -> Result<usize, Fault> {
+    Err(Fault::Syntax { position })
 }
 
 #[test]
 fn ends(rt: HostRuntime) -> Result<(), Fail> {
-    let cases: [(&[u8], Result<usize, Stop>); 26] = [
+    let cases: [(&[u8], Result<usize, Fault>); 26] = [
         (b"a ? b : c", Ok(9)),
         (b"a ? b", syntax(5)),
         (b"1 < 2 < 3", Ok(6)),
@@ -38,7 +38,7 @@ fn ends(rt: HostRuntime) -> Result<(), Fail> {
         (b"SEGMENT_START(\"\", 0x80)", syntax(15)),
         (b"ASSERT ( /* c */ 1 # d\n, \"m\" ) /* e */ + 2", Ok(42)),
         (b"ASSERT(1 /* c */, m)", syntax(10)),
-        (b"ASSERT(1, m /* c", Err(Stop::OpenComment { position: 12 })),
+        (b"ASSERT(1, m /* c", Err(Fault::UnclosedComment { position: 12 })),
         (b"foo(1)", syntax(3)),
         (b"", syntax(0)),
         (b"1 /* c */", syntax(3)),
@@ -51,7 +51,7 @@ fn ends(rt: HostRuntime) -> Result<(), Fail> {
 
 // The expression at the start as its derived text.
 fn shown(alloc: Global, text: &[u8]) -> Result<String, Fail> {
-    match read_expression(alloc, text, 0) {
+    match parse_expression(alloc, text, 0) {
         Ok((expression, _end)) => Ok(format!(in alloc; "{expression:?}")?),
         Err(stop) => Ok(format!(in alloc; "{stop:?}")?),
     }
@@ -99,12 +99,12 @@ fn depths(rt: HostRuntime) -> Result<(), Fail> {
     let more = deep(alloc, b'-', 257, b"1")?;
     assert_eq!(rt;
         end(alloc, more.as_slice()),
-        Err(Stop::TooDeep { position: 257 })
+        Err(Fault::TooDeep { position: 257 })
     );
     let brackets = deep(alloc, b'(', 1_048_576, b"")?;
     assert_eq!(rt;
         end(alloc, brackets.as_slice()),
-        Err(Stop::TooDeep { position: 257 })
+        Err(Fault::TooDeep { position: 257 })
     );
     Ok(())
 }

@@ -1,30 +1,19 @@
-//! Expressions of linker scripts.
+//! Expressions of linker scripts: their grammar, and how they are read.
 #![tactic(auto)]
 
-mod bytes;
-mod equality;
-mod identifier;
-mod literal;
+mod laws;
 mod measured;
-mod operators;
-mod quotes;
+mod parts;
 mod readings;
-mod tree;
 mod values;
-mod words;
 
-pub use bytes::Piece;
-pub use equality::equality_is_sameness;
+pub use laws::chains_are_lists;
 pub use measured::Measured;
-pub use operators::{Level, Operator, Sign};
-pub use readings::read_expression;
-pub use tree::{AssertCommand, Expression, SegmentName};
+pub use parts::{assert_body, expression};
+pub use readings::parse_expression;
 pub use values::{inner_value, value};
-pub use words::{Call, Extreme, Head, Question};
+pub use wild_expression_tree::{AssertCommand, Expression, equality_is_sameness};
+pub use wild_expression_words::{Level, Operator, node};
 
-#[cfg(test)]
-mod equality_tests;
 #[cfg(test)]
 mod expression_tests;
-#[cfg(test)]
-mod leaf_tests;

@@ -3,12 +3,12 @@
 ghost use Rattle.std.specs.Prelude.{◌≡◌, ◌<◌, ◌+◌, ◌^◌, IfOk};
 ghost use Rattle.wild_expression.specs.Grammar as spec;
 
-use crate::operators::{Operator, Sign, node, signed_node};
-use crate::tree::{AssertCommand, Expression, SegmentName};
-use crate::words::{Extreme, Question, is_word};
+use wild_expression_words::{Operator, Sign, node, signed_node};
+use wild_expression_tree::{AssertCommand, Expression};
+use wild_expression_words::{Extreme, Question};
 use sqlite_items::Boxed;
 use std::alloc::{AllocError, Global};
-use wild_base::Name;
+use wild_base::{Name, SegmentName};
 
 /// An expression, and its depth: how many brackets, signs, operators and calls stand in one another in it.
 #[derive(Debug, Drop)]
@@ -120,27 +120,13 @@ pub fn align_value(
     })
 }
 
-fn segment_of(name: &[u8]) -> SegmentName
-    ensures { result ≡ spec.segment_of name.now }
-{
-    if is_word(name, b"text-segment") {
-        SegmentName::Text
-    } else if is_word(name, b"data-segment") {
-        SegmentName::Data
-    } else if is_word(name, b"bss-segment") {
-        SegmentName::Bss
-    } else {
-        SegmentName::Unknown
-    }
-}
-
 /// The start of a segment, or a value.
 pub fn start(alloc: Global, name: &[u8], value: Measured) -> Result<Measured, AllocError>
     requires { value.depth + 1 < 2 ^ 32 }
     ensures { IfOk result (λ x. x ≡ spec.started name.now value) }
 {
     let depth = value.depth + 1;
-    let expression = Expression::SegmentStart(segment_of(name), value.expression);
+    let expression = Expression::SegmentStart(SegmentName::from_bytes(name), value.expression);
     Ok(Measured {
         expression: Boxed::new(alloc, expression)?,
         depth,

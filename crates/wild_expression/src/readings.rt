@@ -1,31 +1,46 @@
 //! Reads an expression at a position.
 
-ghost use Rattle.std.specs.Prelude.{◌≤◌, length, IfOk, IfErr};
-ghost use Rattle.wild_expression.specs.Readings.{IsExpression, IsRefusal};
+ghost use Rattle.std.specs.Prelude.{◌≡◌, ◌≤◌, ◌⊎◌, length, IfOk, IfErr};
+ghost use Rattle.wild_base.specs.declared.fault.Fault.TheVariants.{NoMemory};
+ghost use Rattle.wild_expression.specs.Readings.{plain_fault, IsExpression, IsRefusal};
 
-use crate::operators::Level;
-use crate::tree::Expression;
+use wild_expression_words::Level;
 use crate::values::value;
 use std::alloc::Global;
+use wild_base::Fault;
+use wild_expression_tree::Expression;
 use wild_reading::{Cursor, Stop};
 
 /// How deep an expression may be.
 const MAX_DEPTH: u32 = 256;
 
-/// Reads the expression at a position, and the white behind it. Answers it and the position behind it. Stops where none
-/// is read there, where one is read but of a greater depth than 256, and where memory runs out.
-pub fn read_expression(
+// No sort stands in an expression: where one would be in another, nothing is read.
+fn plain_fault(stop: Stop) -> Fault
+    ensures { result ≡ plain_fault stop }
+{
+    match stop {
+        Stop::NestedSort { position } => Fault::Syntax { position },
+        _ => Fault::from(stop),
+    }
+}
+
+/// Reads the expression at a position, and the white behind it. Answers it and the position behind it. Fails with
+/// `Syntax` or `UnclosedComment` where none is read there, with `TooDeep` where none is of a depth up to 256, and
+/// where memory runs out.
+pub fn parse_expression(
     alloc: Global,
     bytes: &[u8],
     position: usize,
-) -> Result<(Expression, usize), Stop>
+) -> Result<(Expression, usize), Fault>
     requires { position ≤ length bytes.now }
+    // It is read there, nothing else is, and it ends behind its start.
     ensures found { IfOk result (λ r. IsExpression bytes.now position r.0 r.1) }
-    ensures refused { IfErr result (IsRefusal bytes.now position) }
+    // None is read there, or none of a depth up to 256.
+    ensures refused { IfErr result (λ f. (f ≡ NoMemory) ⊎ IsRefusal bytes.now position f) }
 {
     let mut cursor = Cursor::new(bytes, position, MAX_DEPTH);
     match value(&mut cursor, alloc, Level::Ternary) {
         Ok(x) => Ok((x.expression.into_inner(), cursor.position())),
-        Err(stop) => Err(stop),
+        Err(stop) => Err(plain_fault(stop)),
     }
 }

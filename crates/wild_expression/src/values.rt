@@ -5,15 +5,16 @@ ghost use Rattle.wild_reading.specs.Place.{ahead, IsMarked, IsPaid};
 ghost use Rattle.wild_reading.specs.Only.{Answers};
 ghost use Rattle.wild_expression.specs.Grammar as spec;
 ghost use Rattle.wild_expression.specs.Grammar.{IsCovered};
-ghost use Rattle.wild_expression.specs.Operators.{is_layer};
+ghost use Rattle.wild_expression_words.specs.Operators.{is_layer};
+ghost use Rattle.wild_expression_words.specs.Words.{byte_count};
 
-use crate::bytes::Piece;
+use wild_expression_words::Piece;
 use crate::measured::{
     Measured, align_counter, align_value, ask, assert_that, choose, join, pair_up, put_sign, start,
 };
-use crate::operators::{Level, ends, is_signed, operand, pass_operator, pass_sign};
-use crate::quotes::quoted_name;
-use crate::words::{Call, Extreme, Head, Question, name, read_head};
+use wild_expression_words::{Level, ends, is_signed, operand, pass_operator, pass_sign};
+use wild_expression_words::quoted_name;
+use wild_expression_words::{Call, Extreme, Head, Question, name, read_head};
 use std::alloc::Global;
 use wild_base::Name;
 use wild_reading::{Cursor, Stop};
@@ -39,6 +40,7 @@ fn ask_name(cursor: &mut Cursor<'_>, alloc: Global, asks: Question) -> Result<Me
     ensures read { Answers (spec.question asks) cursor.old cursor.new result }
     ensures deep { IfOk result (λ x. x.depth ≤ cursor.old.left) }
     ensures paid { IfOk result (λ x. IsCovered x.depth cursor.new) }
+    ensures shorter { OnOk result (ahead cursor.new < ahead cursor.old) }
 {
     cursor.byte(b'(')?;
     cursor.room(0)?;
@@ -84,6 +86,7 @@ fn brackets(cursor: &mut Cursor<'_>, alloc: Global) -> Result<Measured, Stop>
     ensures read { Answers spec.brackets cursor.old cursor.new result }
     ensures deep { IfOk result (λ x. x.depth ≤ cursor.old.left) }
     ensures paid { IfOk result (λ x. IsCovered x.depth cursor.new) }
+    ensures shorter { OnOk result (ahead cursor.new < ahead cursor.old) }
 {
     cursor.byte(b'(')?;
     let x = inner_value(cursor, alloc, Level::Ternary)?;
@@ -100,6 +103,7 @@ fn pair(cursor: &mut Cursor<'_>, alloc: Global, extreme: Extreme) -> Result<Meas
     ensures read { Answers (spec.pair extreme) cursor.old cursor.new result }
     ensures deep { IfOk result (λ x. x.depth ≤ cursor.old.left) }
     ensures paid { IfOk result (λ x. IsCovered x.depth cursor.new) }
+    ensures shorter { OnOk result (ahead cursor.new < ahead cursor.old) }
 {
     cursor.byte(b'(')?;
     let x = inner_value(cursor, alloc, Level::Ternary)?;
@@ -168,6 +172,7 @@ fn align(cursor: &mut Cursor<'_>, alloc: Global) -> Result<Measured, Stop>
     ensures read { Answers spec.align cursor.old cursor.new result }
     ensures deep { IfOk result (λ x. x.depth ≤ cursor.old.left) }
     ensures paid { IfOk result (λ x. IsCovered x.depth cursor.new) }
+    ensures shorter { OnOk result (ahead cursor.new < ahead cursor.old) }
 {
     cursor.byte(b'(')?;
     let x = inner_value(cursor, alloc, Level::Ternary)?;
@@ -180,6 +185,7 @@ fn segment_start(cursor: &mut Cursor<'_>, alloc: Global) -> Result<Measured, Sto
     ensures read { Answers spec.segment_start cursor.old cursor.new result }
     ensures deep { IfOk result (λ x. x.depth ≤ cursor.old.left) }
     ensures paid { IfOk result (λ x. IsCovered x.depth cursor.new) }
+    ensures shorter { OnOk result (ahead cursor.new < ahead cursor.old) }
 {
     cursor.byte(b'(')?;
     cursor.white()?;
@@ -198,6 +204,7 @@ fn assertion(cursor: &mut Cursor<'_>, alloc: Global) -> Result<Measured, Stop>
     ensures read { Answers spec.assert cursor.old cursor.new result }
     ensures deep { IfOk result (λ x. x.depth ≤ cursor.old.left) }
     ensures paid { IfOk result (λ x. IsCovered x.depth cursor.new) }
+    ensures shorter { OnOk result (ahead cursor.new < ahead cursor.old) }
 {
     let at = cursor.position();
     cursor.symbol(b'(')?;
@@ -215,6 +222,7 @@ fn arguments(cursor: &mut Cursor<'_>, alloc: Global, call: Call) -> Result<Measu
     ensures read { Answers (spec.arguments call) cursor.old cursor.new result }
     ensures deep { IfOk result (λ x. x.depth ≤ cursor.old.left) }
     ensures paid { IfOk result (λ x. IsCovered x.depth cursor.new) }
+    ensures shorter { OnOk result (ahead cursor.new < ahead cursor.old) }
 {
     match call {
         Call::Brackets => brackets(cursor, alloc),
@@ -232,6 +240,7 @@ fn behind(cursor: &mut Cursor<'_>, alloc: Global, head: Head) -> Result<Measured
     ensures read { Answers (spec.behind head) cursor.old cursor.new result }
     ensures deep { IfOk result (λ x. x.depth ≤ cursor.old.left) }
     ensures paid { IfOk result (λ x. IsCovered x.depth cursor.new) }
+    ensures shorter { OnOk result (ahead cursor.new < ahead cursor.old + byte_count head) }
 {
     match head {
         Head::Whole(expression) => Ok(Measured {
@@ -248,6 +257,7 @@ fn primary(cursor: &mut Cursor<'_>, alloc: Global) -> Result<Measured, Stop>
     ensures read { Answers spec.primary cursor.old cursor.new result }
     ensures deep { IfOk result (λ x. x.depth ≤ cursor.old.left) }
     ensures paid { IfOk result (λ x. IsCovered x.depth cursor.new) }
+    ensures shorter { OnOk result (ahead cursor.new < ahead cursor.old) }
 {
     let head = read_head(cursor, alloc)?;
     behind(cursor, alloc, head)
@@ -259,6 +269,7 @@ fn signed(cursor: &mut Cursor<'_>, alloc: Global) -> Result<Measured, Stop>
     ensures read { Answers spec.signed cursor.old cursor.new result }
     ensures deep { IfOk result (λ x. x.depth ≤ cursor.old.left) }
     ensures paid { IfOk result (λ x. IsCovered x.depth cursor.new) }
+    ensures shorter { OnOk result (ahead cursor.new < ahead cursor.old) }
 {
     let before = pass_sign(cursor)?;
     let x = inner_value(cursor, alloc, Level::Sign)?;
@@ -272,6 +283,7 @@ fn signed_or_primary(cursor: &mut Cursor<'_>, alloc: Global) -> Result<Measured,
     ensures read { Answers spec.signed_or_primary cursor.old cursor.new result }
     ensures deep { IfOk result (λ x. x.depth ≤ cursor.old.left) }
     ensures paid { IfOk result (λ x. IsCovered x.depth cursor.new) }
+    ensures shorter { OnOk result (ahead cursor.new < ahead cursor.old) }
 {
     if is_signed(cursor) {
         signed(cursor, alloc)
@@ -286,6 +298,7 @@ fn sign_level(cursor: &mut Cursor<'_>, alloc: Global) -> Result<Measured, Stop>
     ensures read { Answers spec.sign_level cursor.old cursor.new result }
     ensures deep { IfOk result (λ x. x.depth ≤ cursor.old.left) }
     ensures paid { IfOk result (λ x. IsCovered x.depth cursor.new) }
+    ensures shorter { OnOk result (ahead cursor.new < ahead cursor.old) }
 {
     cursor.white()?;
     signed_or_primary(cursor, alloc)
@@ -428,6 +441,7 @@ fn layer(cursor: &mut Cursor<'_>, alloc: Global, level: Level) -> Result<Measure
     ensures read { Answers (spec.layer level) cursor.old cursor.new result }
     ensures deep { IfOk result (λ x. x.depth ≤ cursor.old.left) }
     ensures paid { IfOk result (λ x. IsCovered x.depth cursor.new) }
+    ensures shorter { OnOk result (ahead cursor.new < ahead cursor.old) }
 {
     let first = value(cursor, alloc, operand(level))?;
     rest(cursor, alloc, level, first)
@@ -439,6 +453,7 @@ pub fn value(cursor: &mut Cursor<'_>, alloc: Global, level: Level) -> Result<Mea
     ensures read { Answers (spec.value level) cursor.old cursor.new result }
     ensures deep { IfOk result (λ x. x.depth ≤ cursor.old.left) }
     ensures paid { IfOk result (λ x. IsCovered x.depth cursor.new) }
+    ensures shorter { OnOk result (ahead cursor.new < ahead cursor.old) }
 {
     match level {
         Level::Sign => sign_level(cursor, alloc),

@@ -3,7 +3,7 @@ use Rattle.std.proofs.Common.{◌≡◌, ◌∙◌, ℕ, List, [], length, None,
 use Rattle.std.proofs.Math.Path.{fun_ext}
 use Rattle.std.specs.List.{filter}
 use Rattle.wild_base.specs.declared.fault.Fault.{Fault}
-use Rattle.wild_base.specs.declared.fault.Fault.TheVariants.{Syntax, UnclosedComment, TooDeep, BadRow, DuplicateSection, Overflow, AlignOverflow, NoMemory, Unsupported}
+use Rattle.wild_base.specs.declared.fault.Fault.TheVariants.{Syntax, UnclosedComment, UnsupportedNestedSort, TooDeep}
 use Rattle.wild_script.specs.Tree.{Bytes, tree, IsTree, IsParseFault}
 use Rattle.wild_script.specs.declared.tree.LinkerScript.{LinkerScript}
 use Rattle.wild_script.specs.declared.tree.Section.{Section}
@@ -126,13 +126,9 @@ module _ (t : LinkerScript) (rows : List InputRow) (checked : Checked) (c : IsCh
 none_by : (script : Bytes) (t : LinkerScript) (fault : Fault) → tree script t → IsParseFault script fault → ⊥
 none_by script t (Syntax position) h f = f.none 256 t h
 none_by script t (UnclosedComment position) h f = f.none 256 t h
+none_by script t (UnsupportedNestedSort position) h f = f.none 256 t h
 none_by script t (TooDeep position) h f = f.none t h
-none_by script t (BadRow row) h f = f
-none_by script t (DuplicateSection name) h f = f
-none_by script t (Overflow left right) h f = f
-none_by script t (AlignOverflow value align) h f = f
-none_by script t NoMemory h f = f
-none_by script t (Unsupported index) h f = f
+none_by script t g h f = f
 
 module _ (script : Bytes) (rows : List InputRow) (t : LinkerScript) (is : IsTree script t) where
   of_tree : (plan : Layout) → IsPlan script rows plan → Fits t rows plan

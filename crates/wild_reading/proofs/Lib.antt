@@ -4,3 +4,4 @@ pub mod Marks
 pub mod Leaves
 pub mod Closes
 pub mod Families
+pub mod Gaps

@@ -4,3 +4,5 @@ pub mod Reader
 pub mod Lex
 pub mod Only
 pub mod Family
+pub mod Faults
+pub mod Gap

@@ -4,8 +4,11 @@
 mod cursor;
 mod lex;
 mod many;
+mod skipping;
 mod stop;
 
 pub use cursor::{Cursor, Token};
+pub use lex::{begins, quotes_end};
 pub use many::{Grammar, read_until};
+pub use skipping::skip_comments_and_whitespace;
 pub use stop::Stop;

@@ -1,10 +1,11 @@
 //! Why reading stops.
 
 ghost use Rattle.std.specs.Prelude.{◌≡◌};
+ghost use Rattle.wild_reading.specs.Faults.{fault_of};
 ghost use Rattle.wild_reading.specs.declared.stop.Stop.TheVariants as stop;
 
 use std::alloc::{AllocError, AllocFailed};
-use wild_base::NoMemory;
+use wild_base::{Fault, NoMemory};
 
 /// Why reading stops. Each position is at most the length of what is read.
 #[derive(Clone, Copy, Debug, PartialEq, Eq)]
@@ -42,5 +43,19 @@ impl From<NoMemory> for Stop {
 
     fn from(_error: NoMemory) -> Stop {
         Stop::NoMemory
+    }
+}
+
+impl From<Stop> for Fault {
+    ghost from_gives = { λ stop f. f ≡ fault_of stop };
+
+    fn from(stop: Stop) -> Fault {
+        match stop {
+            Stop::Syntax { position } => Fault::Syntax { position },
+            Stop::OpenComment { position } => Fault::UnclosedComment { position },
+            Stop::NestedSort { position } => Fault::UnsupportedNestedSort { position },
+            Stop::TooDeep { position } => Fault::TooDeep { position },
+            Stop::NoMemory => Fault::NoMemory,
+        }
     }
 }

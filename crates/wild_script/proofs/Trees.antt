@@ -5,11 +5,11 @@ use Rattle.wild_base.specs.declared.fault.Fault.TheVariants as fault
 use Rattle.wild_reading.specs.Place as place
 use Rattle.wild_reading.specs.Place.{Bytes, Text, Place}
 use Rattle.wild_reading.specs.Bytes.{is_end}
-use Rattle.wild_reading.specs.Only.{IsOnly, Refuses, IsOpenComment}
+use Rattle.wild_reading.specs.Only.{IsOnly, Refuses, IsOpenComment, IsNestedSort}
 use Rattle.wild_reading.specs.declared.stop.Stop.{Stop}
 use Rattle.wild_reading.specs.declared.stop.Stop.TheVariants.{Syntax, OpenComment, NestedSort, TooDeep, NoMemory}
 use Rattle.wild_reading.proofs.Readers.{until_ends}
-use Rattle.wild_script.specs.Fault.{fault_of}
+use Rattle.wild_reading.specs.Faults.{fault_of}
 use Rattle.wild_script.specs.Tree.{script, commands, tree_within, IsTree, IsParseFault}
 use Rattle.wild_script.specs.declared.tree.LinkerScript.{LinkerScript}
 
@@ -51,7 +51,7 @@ module _ {b : Bytes} {s : Place} (w : s.text ≡ record { bytes = b; start = 0; 
   pub no_tree : {stop : Stop} → Refuses script s stop → (fault_of stop ≡ fault.NoMemory) ⊎ IsParseFault b (fault_of stop)
   no_tree {stop = Syntax n} p = inr (record { none = never (p.never tt); within = within_bytes p.cause })
   no_tree {stop = OpenComment n} p = inr (record { none = never (p.never tt); comment = subst (λ (c : Bytes). IsOpenComment c n) same_bytes p.cause })
-  no_tree {stop = NestedSort n} p = inr (record { none = never (p.never tt); within = within_bytes p.cause.within })
+  no_tree {stop = NestedSort n} p = inr (record { none = never (p.never tt); sort = subst (λ (c : Bytes). IsNestedSort c n) same_bytes p.cause })
   no_tree {stop = TooDeep n} p =
       let marks = subst (λ (t : Text). place.mark_count t.bytes t.start + t.limit ≤ place.mark_count t.bytes n) w p.cause.marks in
       inr (record {

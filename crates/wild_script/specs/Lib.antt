@@ -1,4 +1,3 @@
-pub mod Fault
 pub mod Pattern
 pub mod Section
 pub mod Tree

@@ -2,12 +2,12 @@
 use Rattle.std.specs.Prelude.{◌≡◌, ℕ, ◌≤◌, Bool, List, length, codes}
 use Rattle.std.specs.Str.{bytes_eq}
 use Rattle.wild_base.specs.declared.fault.Fault.{Fault}
-use Rattle.wild_base.specs.declared.fault.Fault.TheVariants.{Syntax, UnclosedComment, TooDeep, BadRow, DuplicateSection, Overflow, AlignOverflow, NoMemory, Unsupported}
+use Rattle.wild_base.specs.declared.fault.Fault.TheVariants.{Syntax, UnclosedComment, UnsupportedNestedSort, TooDeep}
 use Rattle.wild_reading.specs.Place as place
 use Rattle.wild_reading.specs.Bytes.{begins, is_end}
 use Rattle.wild_reading.specs.Reader.{Reader, ◌>>=◌, ◌>>◌, Give, check, Until}
 use Rattle.wild_reading.specs.Lex.{gap, word, symbol}
-use Rattle.wild_reading.specs.Only.{IsOpenComment}
+use Rattle.wild_reading.specs.Only.{IsOpenComment, IsNestedSort}
 use Rattle.wild_script.specs.Section.{«section»}
 use Rattle.wild_script.specs.declared.tree.LinkerScript.{LinkerScript}
 use Rattle.wild_script.specs.declared.tree.Command.{Command}
@@ -80,6 +80,11 @@ pub record IsUnclosedComment (b : Bytes) (position : ℕ) : Type 0 where
   pub none : (depth : ℕ) → HasNone depth b
   pub comment : IsOpenComment b position
 
+-- they have none of any depth, and a sort word stands at the position, directly in the brackets of another
+pub record IsUnsupportedNestedSort (b : Bytes) (position : ℕ) : Type 0 where
+  pub none : (depth : ℕ) → HasNone depth b
+  pub sort : IsNestedSort b position
+
 -- they have none of depth at most 256, and as many bytes that deepen a script stand before the position
 pub record IsTooDeep (b : Bytes) (position : ℕ) : Type 0 where
   pub none : HasNone 256 b
@@ -90,10 +95,6 @@ pub record IsTooDeep (b : Bytes) (position : ℕ) : Type 0 where
 abbrev pub IsParseFault : Bytes → Fault → Type 0
 IsParseFault b (Syntax position) = IsSyntaxFault b position
 IsParseFault b (UnclosedComment position) = IsUnclosedComment b position
+IsParseFault b (UnsupportedNestedSort position) = IsUnsupportedNestedSort b position
 IsParseFault b (TooDeep position) = IsTooDeep b position
-IsParseFault b (BadRow row) = ⊥
-IsParseFault b (DuplicateSection name) = ⊥
-IsParseFault b (Overflow left right) = ⊥
-IsParseFault b (AlignOverflow value align) = ⊥
-IsParseFault b NoMemory = ⊥
-IsParseFault b (Unsupported index) = ⊥
+IsParseFault b f = ⊥

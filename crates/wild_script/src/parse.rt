@@ -2,28 +2,16 @@
 
 ghost use Rattle.std.specs.Prelude.{◌≡◌, ◌⊎◌, IfOk, IfErr};
 ghost use Rattle.wild_base.specs.declared.fault.Fault.TheVariants.{NoMemory};
-ghost use Rattle.wild_script.specs.Fault.{fault_of};
 ghost use Rattle.wild_script.specs.Tree.{IsTree, IsParseFault};
 
 use crate::script::script;
 use crate::tree::LinkerScript;
 use std::alloc::Global;
 use wild_base::Fault;
-use wild_reading::{Cursor, Stop};
+use wild_reading::Cursor;
 
 /// How deep a script may be.
 const MAX_DEPTH: u32 = 256;
-
-fn fault_of(stop: Stop) -> Fault
-    ensures { result ≡ fault_of stop }
-{
-    match stop {
-        Stop::Syntax { position } | Stop::NestedSort { position } => Fault::Syntax { position },
-        Stop::OpenComment { position } => Fault::UnclosedComment { position },
-        Stop::TooDeep { position } => Fault::TooDeep { position },
-        Stop::NoMemory => Fault::NoMemory,
-    }
-}
 
 impl LinkerScript {
     /// Reads the whole of the bytes as a script.
@@ -34,7 +22,7 @@ impl LinkerScript {
         let mut cursor = Cursor::new(bytes, 0, MAX_DEPTH);
         match script(&mut cursor, alloc) {
             Ok(script) => Ok(script),
-            Err(stop) => Err(fault_of(stop)),
+            Err(stop) => Err(Fault::from(stop)),
         }
     }
 }

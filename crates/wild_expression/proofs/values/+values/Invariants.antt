@@ -2,7 +2,7 @@
 use Rattle.std.proofs.Common.{◌+◌, ◌*◌, ◌≤◌}
 use Rattle.wild_reading.specs.Place.{ahead}
 use Rattle.wild_reading.proofs.Families.{GoesOn}
-use Rattle.wild_expression.specs.Operators.{ends}
+use Rattle.wild_expression_words.specs.Operators.{ends}
 use Rattle.wild_expression.specs.Grammar.{step, IsCovered}
 use Rattle.wild_expression.proofs.Levels.{rank}
 use Rattle.wild_expression.proofs.values.+values.Given as goal

@@ -5,4 +5,4 @@ pub returns-in-Ok-clause-found : goal.returns-in-Ok-clause-found
 returns-in-Ok-clause-found c = one_tree c.new-cursor.ensures.text c.new-cursor.ensures.at c.new-cursor.ensures.left c.in-Ok.ensures.ok
 
 pub returns-in-Err-clause-refused : goal.returns-in-Err-clause-refused
-returns-in-Err-clause-refused c = rw c.fault_of.ensures (no_tree c.new-cursor.ensures.text c.new-cursor.ensures.at c.new-cursor.ensures.left c.in-Err.ensures.err)
+returns-in-Err-clause-refused c = rw c.from.ensures (no_tree c.new-cursor.ensures.text c.new-cursor.ensures.at c.new-cursor.ensures.left c.in-Err.ensures.err)

@@ -1,0 +1,26 @@
+-- Parts of statements that are made of expressions.
+use Rattle.std.specs.Prelude.{ℕ}
+use Rattle.wild_reading.specs.Reader.{Reader, ◌>>=◌, ◌>>◌, Give, here}
+use Rattle.wild_reading.specs.Lex.{gap, symbol, name}
+use Rattle.wild_expression_tree.specs.declared.tree.AssertCommand.{AssertCommand}
+use Rattle.wild_expression_tree.specs.declared.tree.Expression.{Expression}
+use Rattle.wild_expression_words.specs.declared.operators.Level.TheVariants.{Ternary}
+use Rattle.wild_expression.specs.Grammar.{value}
+
+-- an expression, with the white behind it
+unfoldable pub expression : Reader Expression
+expression = do
+  x ← value Ternary
+  Give x.expression
+
+-- the brackets of an ASSERT, with a condition and a message, and the gap behind them
+unfoldable pub assert_body : Reader AssertCommand
+assert_body = do
+  at ← here
+  symbol 40
+  condition ← expression
+  gap
+  symbol 44
+  message ← name
+  symbol 41
+  Give (record { expression = condition; message = message; at = at })

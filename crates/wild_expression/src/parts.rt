@@ -1,0 +1,43 @@
+//! Parts of statements that are made of expressions.
+
+ghost use Rattle.std.specs.Prelude.{◌<◌, OnOk};
+ghost use Rattle.wild_reading.specs.Place.{ahead};
+ghost use Rattle.wild_reading.specs.Only.{Answers};
+ghost use Rattle.wild_expression.specs.Parts as spec;
+
+use wild_expression_words::Level;
+use crate::values::value;
+use sqlite_items::Boxed;
+use std::alloc::Global;
+use wild_expression_tree::{AssertCommand, Expression};
+use wild_reading::{Cursor, Stop};
+
+/// Reads an expression and the white behind it.
+#[tactic(auto, using(wild_reading::proofs::Readers::reading), unfolding(crate::specs::Parts::expression))]
+pub fn expression(cursor: &mut Cursor<'_>, alloc: Global) -> Result<Boxed<Expression>, Stop>
+    ensures read { Answers spec.expression cursor.old cursor.new result }
+    ensures shorter { OnOk result (ahead cursor.new < ahead cursor.old) }
+{
+    let x = value(cursor, alloc, Level::Ternary)?;
+    Ok(x.expression)
+}
+
+/// Reads the brackets of an ASSERT, with its condition and its message, and the gap behind them.
+#[tactic(auto, using(wild_reading::proofs::Readers::reading), unfolding(crate::specs::Parts::assert_body))]
+pub fn assert_body(cursor: &mut Cursor<'_>, alloc: Global) -> Result<AssertCommand, Stop>
+    ensures read { Answers spec.assert_body cursor.old cursor.new result }
+    ensures shorter { OnOk result (ahead cursor.new < ahead cursor.old) }
+{
+    let at = cursor.position();
+    cursor.symbol(b'(')?;
+    let condition = expression(cursor, alloc)?;
+    cursor.gap()?;
+    cursor.symbol(b',')?;
+    let message = cursor.name(alloc)?;
+    cursor.symbol(b')')?;
+    Ok(AssertCommand {
+        expression: condition,
+        message,
+        at,
+    })
+}

@@ -1,0 +1,5 @@
+pub mod Numbers
+pub mod Passing
+pub mod Operations
+pub mod Calls
+pub mod Taken

@@ -1,0 +1,5 @@
+pub mod Identifier
+pub mod Literal
+pub mod Quotes
+pub mod Operators
+pub mod Words

@@ -1,0 +1,256 @@
+//! What an expression without operators begins with: a number, a name, or what stands before a bracket.
+
+ghost use Rattle.std.specs.Prelude.{◌≡◌, ◌<◌, ◌≤◌, ◌+◌, IfOk, OnOk};
+ghost use Rattle.std.specs.Str.{bytes_eq};
+ghost use Rattle.wild_reading.specs.Place.{ahead};
+ghost use Rattle.wild_reading.specs.Only.{Answers};
+ghost use Rattle.wild_expression_words.specs.Words as spec;
+ghost use Rattle.wild_expression_words.specs.Identifier as identifiers;
+
+use crate::piece::Piece;
+use crate::identifier::{begins_digit, identifier};
+use crate::literal::literal;
+use wild_expression_tree::Expression;
+use sqlite_items::Boxed;
+use std::alloc::Global;
+use wild_base::{Name, NoMemory};
+use wild_reading::{Cursor, Stop};
+
+/// The calls over one name.
+#[derive(Clone, Copy, Debug, PartialEq, Eq)]
+pub enum Question {
+    Sizeof,
+    Alignof,
+    Addr,
+    Loadaddr,
+    Origin,
+    Length,
+    Defined,
+}
+
+/// The calls over two expressions.
+#[derive(Clone, Copy, Debug, PartialEq, Eq)]
+pub enum Extreme {
+    Min,
+    Max,
+}
+
+/// What stands before a bracket.
+#[derive(Clone, Copy, Debug, PartialEq, Eq)]
+pub enum Call {
+    /// Nothing.
+    Brackets,
+    Name(Question),
+    Align,
+    Pair(Extreme),
+    SegmentStart,
+    Assert,
+}
+
+/// What an expression without operators begins with.
+#[derive(Debug, Drop)]
+pub enum Head {
+    /// All of it.
+    Whole(Boxed<Expression>),
+    /// What stands before its bracket.
+    Before(Call),
+}
+
+#[tactic(auto, unfolding(crate::specs::Words::literal))]
+fn value(cursor: &mut Cursor<'_>) -> Result<u64, Stop>
+    ensures read { Answers spec.literal cursor.old cursor.new result }
+    ensures shorter { OnOk result (ahead cursor.new < ahead cursor.old) }
+{
+    literal(cursor)
+}
+
+/// Reads an identifier, and nothing behind it.
+#[tactic(auto, unfolding(crate::specs::Words::identifier))]
+pub fn name<'a>(cursor: &mut Cursor<'a>) -> Result<Piece<'a>, Stop>
+    ensures read { Answers spec.identifier cursor.old cursor.new result }
+    ensures shorter { OnOk result (ahead cursor.new < ahead cursor.old) }
+{
+    identifier(cursor)
+}
+
+#[tactic(auto, using(wild_reading::proofs::Readers::reading), unfolding(crate::specs::Words::number))]
+fn number(cursor: &mut Cursor<'_>, alloc: Global) -> Result<Head, Stop>
+    ensures read { Answers spec.number cursor.old cursor.new result }
+    ensures shorter { OnOk result (ahead cursor.new < ahead cursor.old) }
+{
+    let value = value(cursor)?;
+    cursor.white()?;
+    let number = Boxed::new(alloc, Expression::Number(value))?;
+    Ok(Head::Whole(number))
+}
+
+/// Whether two words have the same bytes.
+pub fn is_word(word: &[u8], other: &[u8]) -> bool
+    ensures { result ≡ bytes_eq word.now other.now }
+{
+    word == other
+}
+
+fn call_of(word: &[u8]) -> Option<Call>
+    ensures { result ≡ spec.call_of word.now }
+{
+    if is_word(word, b"SIZEOF") {
+        Some(Call::Name(Question::Sizeof))
+    } else if is_word(word, b"ALIGNOF") {
+        Some(Call::Name(Question::Alignof))
+    } else if is_word(word, b"ADDR") {
+        Some(Call::Name(Question::Addr))
+    } else if is_word(word, b"LOADADDR") {
+        Some(Call::Name(Question::Loadaddr))
+    } else if is_word(word, b"ORIGIN") {
+        Some(Call::Name(Question::Origin))
+    } else if is_word(word, b"LENGTH") {
+        Some(Call::Name(Question::Length))
+    } else if is_word(word, b"DEFINED") {
+        Some(Call::Name(Question::Defined))
+    } else if is_word(word, b"ALIGN") {
+        Some(Call::Align)
+    } else if is_word(word, b"MIN") {
+        Some(Call::Pair(Extreme::Min))
+    } else if is_word(word, b"MAX") {
+        Some(Call::Pair(Extreme::Max))
+    } else if is_word(word, b"SEGMENT_START") {
+        Some(Call::SegmentStart)
+    } else if is_word(word, b"ASSERT") {
+        Some(Call::Assert)
+    } else {
+        None
+    }
+}
+
+#[tactic(auto, using(wild_reading::proofs::Readers::reading))]
+fn called_by(cursor: &Cursor<'_>, found: Option<Call>) -> Result<Head, Stop>
+    ensures { Answers (spec.called_by found) cursor.now cursor.now result }
+{
+    match found {
+        Some(call) => Ok(Head::Before(call)),
+        None => Err(Stop::Syntax {
+            position: cursor.position(),
+        }),
+    }
+}
+
+#[tactic(auto, unfolding(crate::specs::Words::called))]
+fn called(cursor: &Cursor<'_>, word: &[u8]) -> Result<Head, Stop>
+    ensures { Answers (spec.called word.now) cursor.now cursor.now result }
+{
+    called_by(cursor, call_of(word))
+}
+
+fn name_node(alloc: Global, word: &[u8]) -> Result<Expression, NoMemory>
+    ensures { IfOk result (λ x. x ≡ spec.name_node word.now) }
+{
+    if is_word(word, b"SIZEOF_HEADERS") {
+        Ok(Expression::SizeofHeaders)
+    } else {
+        Ok(Expression::Symbol(Name::new(alloc, word)?))
+    }
+}
+
+#[tactic(auto, using(wild_reading::proofs::Readers::reading), unfolding(crate::specs::Words::lone_name))]
+fn lone_name(cursor: &Cursor<'_>, alloc: Global, word: &[u8]) -> Result<Head, Stop>
+    ensures { Answers (spec.lone_name word.now) cursor.now cursor.now result }
+{
+    let node = name_node(alloc, word)?;
+    let name = Boxed::new(alloc, node)?;
+    Ok(Head::Whole(name))
+}
+
+#[tactic(auto, using(wild_reading::proofs::Readers::choosing), unfolding(crate::specs::Words::name_or_call))]
+fn name_or_call(cursor: &Cursor<'_>, alloc: Global, word: &[u8]) -> Result<Head, Stop>
+    ensures { Answers (spec.name_or_call word.now) cursor.now cursor.now result }
+{
+    if cursor.begins(b'(') {
+        called(cursor, word)
+    } else {
+        lone_name(cursor, alloc, word)
+    }
+}
+
+#[tactic(auto, using(wild_reading::proofs::Readers::reading), unfolding(crate::specs::Words::named))]
+fn named(cursor: &mut Cursor<'_>, alloc: Global, word: &[u8]) -> Result<Head, Stop>
+    ensures { Answers (spec.named word.now) cursor.old cursor.new result }
+{
+    cursor.white()?;
+    name_or_call(cursor, alloc, word)
+}
+
+#[tactic(auto, using(wild_reading::proofs::Readers::reading), unfolding(crate::specs::Words::counter))]
+fn counter(cursor: &mut Cursor<'_>, alloc: Global) -> Result<Head, Stop>
+    ensures { Answers spec.counter cursor.old cursor.new result }
+{
+    cursor.white()?;
+    let counter = Boxed::new(alloc, Expression::LocationCounter)?;
+    Ok(Head::Whole(counter))
+}
+
+#[tactic(auto, unfolding(crate::specs::Words::is_counter))]
+fn is_counter(word: &[u8]) -> bool
+    ensures { result ≡ spec.is_counter word.now }
+{
+    word == b".".as_slice()
+}
+
+#[tactic(auto, using(wild_reading::proofs::Readers::choosing), unfolding(crate::specs::Words::counter_or_named))]
+fn counter_or_named(cursor: &mut Cursor<'_>, alloc: Global, word: &[u8]) -> Result<Head, Stop>
+    ensures { Answers (spec.counter_or_named word.now) cursor.old cursor.new result }
+{
+    if is_counter(word) {
+        counter(cursor, alloc)
+    } else {
+        named(cursor, alloc, word)
+    }
+}
+
+#[tactic(auto, using(wild_reading::proofs::Readers::reading), unfolding(crate::specs::Words::word))]
+fn word(cursor: &mut Cursor<'_>, alloc: Global) -> Result<Head, Stop>
+    ensures read { Answers spec.word cursor.old cursor.new result }
+    ensures shorter { OnOk result (ahead cursor.new < ahead cursor.old) }
+{
+    let word = name(cursor)?;
+    counter_or_named(cursor, alloc, word.content())
+}
+
+#[tactic(auto, using(wild_reading::proofs::Readers::reading), unfolding(crate::specs::Words::bracket))]
+fn bracket(cursor: &Cursor<'_>) -> Result<Head, Stop>
+    ensures read { Answers spec.bracket cursor.now cursor.now result }
+    ensures none { IfOk result (λ h. spec.byte_count h ≡ 0) }
+{
+    Ok(Head::Before(Call::Brackets))
+}
+
+fn is_number(cursor: &Cursor<'_>) -> bool
+    ensures { result ≡ identifiers.begins_digit cursor.now.text.bytes cursor.now.at }
+{
+    begins_digit(cursor.bytes(), cursor.position())
+}
+
+#[tactic(auto, using(wild_reading::proofs::Readers::choosing), unfolding(crate::specs::Words::number_or_word))]
+fn number_or_word(cursor: &mut Cursor<'_>, alloc: Global) -> Result<Head, Stop>
+    ensures read { Answers spec.number_or_word cursor.old cursor.new result }
+    ensures shorter { OnOk result (ahead cursor.new < ahead cursor.old) }
+{
+    if is_number(cursor) {
+        number(cursor, alloc)
+    } else {
+        word(cursor, alloc)
+    }
+}
+
+/// Reads an expression with none inside and the white behind it, or what stands before the bracket ahead.
+#[tactic(auto, using(wild_reading::proofs::Readers::choosing, crate::proofs::Taken::taken), unfolding(crate::specs::Words::head))]
+pub fn read_head(cursor: &mut Cursor<'_>, alloc: Global) -> Result<Head, Stop>
+    ensures read { Answers spec.head cursor.old cursor.new result }
+    ensures shorter { IfOk result (λ h. ahead cursor.new + spec.byte_count h ≤ ahead cursor.old) }
+{
+    if cursor.begins(b'(') {
+        bracket(cursor)
+    } else {
+        number_or_word(cursor, alloc)
+    }
+}
