@@ -49,3 +49,34 @@ module _ (level : Level) (b : Bytes) (limit : ℕ) where
   pub to_chain : (i : ℕ) (y : Measured) (j : ℕ) (h : IsChain level b limit i y j) → chain level h.first b limit h.middle y j
   unfolding chain
   to_chain i y j h = record { is = subst (λ (n : Measured). Fold (ends level) (step level) b limit h.first h.middle n j) (sym h.is) (back h.first h.middle h.links j h.stand) }
+
+of_value : (level : Level) → is_chain level ≡ true → (b : Bytes) (limit i : ℕ) (y : Measured) (j : ℕ) → value level b limit i y j → IsChain level b limit i y j
+unfolding value value_of inner_value layer_of rest_of chain chain_of step product_of sum_of shift_of bitwise_and_of bitwise_xor_of bitwise_or_of compared_of logical_and_of logical_or_of whole_of
+of_value l.Ternary e b limit i y j h = cc
+of_value l.LogicalOr e b limit i y j h = of_layer l.LogicalOr b limit i y j h.value h.middle h.first h.second
+of_value l.LogicalAnd e b limit i y j h = of_layer l.LogicalAnd b limit i y j h.value h.middle h.first h.second
+of_value l.Comparison e b limit i y j h = cc
+of_value l.BitwiseOr e b limit i y j h = of_layer l.BitwiseOr b limit i y j h.value h.middle h.first h.second
+of_value l.BitwiseXor e b limit i y j h = of_layer l.BitwiseXor b limit i y j h.value h.middle h.first h.second
+of_value l.BitwiseAnd e b limit i y j h = of_layer l.BitwiseAnd b limit i y j h.value h.middle h.first h.second
+of_value l.Shift e b limit i y j h = of_layer l.Shift b limit i y j h.value h.middle h.first h.second
+of_value l.Sum e b limit i y j h = of_layer l.Sum b limit i y j h.value h.middle h.first h.second
+of_value l.Product e b limit i y j h = of_layer l.Product b limit i y j h.value h.middle h.first h.second
+of_value l.Sign e b limit i y j h = cc
+
+to_value : (level : Level) → is_chain level ≡ true → (b : Bytes) (limit i : ℕ) (y : Measured) (j : ℕ) → IsChain level b limit i y j → value level b limit i y j
+unfolding value value_of inner_value layer_of rest_of chain chain_of step product_of sum_of shift_of bitwise_and_of bitwise_xor_of bitwise_or_of compared_of logical_and_of logical_or_of whole_of
+to_value l.Ternary e b limit i y j h = cc
+to_value l.LogicalOr e b limit i y j h = record { value = h.first; middle = h.middle; first = h.reads; second = to_chain l.LogicalOr b limit i y j h }
+to_value l.LogicalAnd e b limit i y j h = record { value = h.first; middle = h.middle; first = h.reads; second = to_chain l.LogicalAnd b limit i y j h }
+to_value l.Comparison e b limit i y j h = cc
+to_value l.BitwiseOr e b limit i y j h = record { value = h.first; middle = h.middle; first = h.reads; second = to_chain l.BitwiseOr b limit i y j h }
+to_value l.BitwiseXor e b limit i y j h = record { value = h.first; middle = h.middle; first = h.reads; second = to_chain l.BitwiseXor b limit i y j h }
+to_value l.BitwiseAnd e b limit i y j h = record { value = h.first; middle = h.middle; first = h.reads; second = to_chain l.BitwiseAnd b limit i y j h }
+to_value l.Shift e b limit i y j h = record { value = h.first; middle = h.middle; first = h.reads; second = to_chain l.Shift b limit i y j h }
+to_value l.Sum e b limit i y j h = record { value = h.first; middle = h.middle; first = h.reads; second = to_chain l.Sum b limit i y j h }
+to_value l.Product e b limit i y j h = record { value = h.first; middle = h.middle; first = h.reads; second = to_chain l.Product b limit i y j h }
+to_value l.Sign e b limit i y j h = cc
+
+pub lists : ChainsAreLists
+lists level e b limit i y j = (of_value level e b limit i y j, to_value level e b limit i y j)

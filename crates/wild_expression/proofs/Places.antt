@@ -12,9 +12,9 @@ use Rattle.wild_expression.specs.Grammar.{value}
 use Rattle.wild_expression.specs.Readings.{plain_fault, reads_within, IsExpression, HasNone, Never, IsRefusal}
 
 -- less is ahead further on alone
-behind : {s r : Place} → r.text ≡ s.text → ahead r < ahead s → s.at < r.at
+behind : (s r : Place) → r.text ≡ s.text → ahead r < ahead s → s.at < r.at
 unfolding ahead
-behind {s} {r} e h =
+behind s r e h =
     let same : length r.text.bytes ≡ length s.text.bytes = ap (λ (t : Text). length t.bytes) e in
     omega (arith, h, same)
 
@@ -41,7 +41,7 @@ module _ {b : Bytes} {i : ℕ} {s : Place} (w : s.text ≡ record { bytes = b; s
   pub one_expression : {x : Measured} {r : Place} {y : Expression} {j : ℕ} → y ≡ x.expression → j ≡ r.at → j ≤ length r.text.bytes → ahead r < ahead s → IsOnly (value Ternary) s x r → IsExpression b i y j
   one_expression {x} {r} {y} {j} e k h d p =
       let at_end : r.at ≤ length b = subst (λ (n : ℕ). n ≤ length b) k (subst (λ (c : Bytes). j ≤ length c) (ap (λ (t : Text). t.bytes) (p.text ∙ w)) h) in
-      let all : IsExpression b i x.expression r.at = record { is = here p; only = one p; forward = subst (λ (n : ℕ). n < r.at) g (behind p.text d); within = at_end } in
+      let all : IsExpression b i x.expression r.at = record { is = here p; only = one p; forward = subst (λ (n : ℕ). n < r.at) g (behind s r p.text d); within = at_end } in
       subst (λ (z : Expression). IsExpression b i z j) (sym e) (subst (λ (n : ℕ). IsExpression b i x.expression n) (sym k) all)
 
   never : ((limit : ℕ) (x : Measured) (j : ℕ) → value Ternary s.text.bytes limit s.at x j → ⊥) → Never b i

@@ -59,7 +59,11 @@ fn shown(alloc: Global, text: &[u8]) -> Result<String, Fail> {
 
 #[test]
 fn trees(rt: HostRuntime) -> Result<(), Fail> {
-    let cases: [(&[u8], &str); 3] = [
+    let cases: [(&[u8], &str); 4] = [
+        (
+            b"1 && 0 || 1",
+            "LogicalOr(Boxed { inner: LogicalAnd(Boxed { inner: Number(1) }, Boxed { inner: Number(0) }) }, Boxed { inner: Number(1) })",
+        ),
         (
             b"0xFF & 0x0F == 0x0F",
             "Equal(Boxed { inner: BitwiseAnd(Boxed { inner: Number(255) }, Boxed { inner: Number(15) }) }, Boxed { inner: Number(15) })",
@@ -79,32 +83,54 @@ fn trees(rt: HostRuntime) -> Result<(), Fail> {
     Ok(())
 }
 
-// So many of a byte, and the rest.
-fn deep(alloc: Global, byte: u8, count: usize, rest: &[u8]) -> Result<Vec<u8>, AllocError> {
-    let mut text = Vec::new(alloc);
+fn push_times(text: &mut Vec<u8>, piece: &[u8], count: usize) -> Result<(), AllocError> {
     for _ in 0..count {
-        text.push(byte)?;
+        for byte in piece {
+            text.push(*byte)?;
+        }
     }
-    for byte in rest {
-        text.push(*byte)?;
-    }
+    Ok(())
+}
+
+// So many of one piece, a middle, and so many of another.
+fn around(
+    alloc: Global,
+    before: &[u8],
+    middle: &[u8],
+    behind: &[u8],
+    count: usize,
+) -> Result<Vec<u8>, AllocError> {
+    let mut text = Vec::new(alloc);
+    push_times(&mut text, before, count)?;
+    push_times(&mut text, middle, 1)?;
+    push_times(&mut text, behind, count)?;
     Ok(text)
 }
 
 #[test]
 fn depths(rt: HostRuntime) -> Result<(), Fail> {
     let alloc = rt.alloc();
-    let signs = deep(alloc, b'-', 256, b"1")?;
-    assert_eq!(rt; end(alloc, signs.as_slice()), Ok(257));
-    let more = deep(alloc, b'-', 257, b"1")?;
-    assert_eq!(rt;
-        end(alloc, more.as_slice()),
-        Err(Fault::TooDeep { position: 257 })
-    );
-    let brackets = deep(alloc, b'(', 1_048_576, b"")?;
-    assert_eq!(rt;
-        end(alloc, brackets.as_slice()),
-        Err(Fault::TooDeep { position: 257 })
-    );
+    let cases: [(&[u8], &[u8], usize, Result<usize, Fault>); 6] = [
+        (b"-", b"", 256, Ok(257)),
+        (b"-", b"", 257, Err(Fault::TooDeep { position: 257 })),
+        (b"(", b")", 256, Ok(513)),
+        (b"(", b")", 257, Err(Fault::TooDeep { position: 257 })),
+        (b"1+", b"", 256, Ok(513)),
+        (b"1+", b"", 257, Err(Fault::TooDeep { position: 514 })),
+    ];
+    for (before, behind, count, expected) in cases {
+        let text = around(alloc, before, b"1", behind, count)?;
+        assert_eq!(rt; end(alloc, text.as_slice()), expected, "{before:?} {count}");
+    }
+    Ok(())
+}
+
+#[test]
+fn mebibytes(rt: HostRuntime) -> Result<(), Fail> {
+    let alloc = rt.alloc();
+    let brackets = around(alloc, b"(", b"", b"", 1_048_576)?;
+    assert_eq!(rt; end(alloc, brackets.as_slice()), Err(Fault::TooDeep { position: 257 }));
+    let sums = around(alloc, b"1+", b"", b"", 524_288)?;
+    assert_eq!(rt; end(alloc, sums.as_slice()), Err(Fault::TooDeep { position: 514 }));
     Ok(())
 }

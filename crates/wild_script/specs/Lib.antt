@@ -1,3 +1,4 @@
+pub mod Assignment
 pub mod Pattern
 pub mod Section
 pub mod Tree

@@ -3,13 +3,14 @@ use Rattle.std.specs.Prelude.{ℕ, Bool, not, ◌||◌, List, [], None, false, c
 use Rattle.std.specs.Str.{bytes_eq}
 use Rattle.wild_reading.specs.Place.{Bytes}
 use Rattle.wild_reading.specs.Bytes.{begins}
-use Rattle.wild_reading.specs.Reader.{Reader, ◌>>=◌, ◌>>◌, Give, check, Ahead, Until}
+use Rattle.wild_reading.specs.Reader.{Reader, ◌>>=◌, ◌>>◌, Give, check, Ahead, Choice, Until}
 use Rattle.wild_reading.specs.Lex.{word, symbol, optional_symbol}
+use Rattle.wild_script.specs.Assignment.{is_dot, begins_assignment, assigned}
 use Rattle.wild_script.specs.Pattern.{pattern_list}
 use Rattle.wild_script.specs.declared.tree.ContentsCommand.{ContentsCommand}
 use Rattle.wild_script.specs.declared.tree.ContentsCommand.TheVariants.{Matcher}
 use Rattle.wild_script.specs.declared.tree.SectionCommand.{SectionCommand}
-use Rattle.wild_script.specs.declared.tree.SectionCommand.TheVariants as statement
+use Rattle.wild_script.specs.declared.tree.SectionCommand.TheVariants as command
 
 -- `*`, quoted or not
 unfoldable pub is_every_file : Bytes → Bool
@@ -38,15 +39,31 @@ has_no_tail b i = not (begins 58 b i || begins 62 b i || begins 61 b i)
 unfoldable pub no_tail : Reader (Unit {0})
 no_tail = Ahead has_no_tail
 
--- a name, a colon, and matchers in braces; a comma or none
-unfoldable pub section : Reader SectionCommand
-section = do
-  name ← word
-  check (is_section_name name.content)
+-- behind a name: a colon, and matchers in braces; a comma or none
+unfoldable pub section : List ℕ → Reader SectionCommand
+section name = do
+  check (is_section_name name)
   symbol 58
   symbol 123
   statements ← contents
   symbol 125
   no_tail
   optional_symbol 44
-  Give (statement.Section (record { output_section_name = name.content; commands = statements }))
+  Give (command.Section (record { output_section_name = name; commands = statements }))
+
+-- behind the name of the location counter: what is assigned to it, and a semicolon
+unfoldable pub location : List ℕ → Reader SectionCommand
+location name = do
+  check (is_dot name)
+  value ← assigned name
+  symbol 59
+  Give (command.SetLocation (record { address = value }))
+
+unfoldable pub behind : List ℕ → Reader SectionCommand
+behind name = Choice begins_assignment (location name) (section name)
+
+-- a statement in SECTIONS
+unfoldable pub statement : Reader SectionCommand
+statement = do
+  name ← word
+  behind name.content

@@ -8,7 +8,7 @@ use Rattle.wild_reading.specs.Bytes.{begins, is_end}
 use Rattle.wild_reading.specs.Reader.{Reader, ◌>>=◌, ◌>>◌, Give, check, Until}
 use Rattle.wild_reading.specs.Lex.{gap, word, symbol}
 use Rattle.wild_reading.specs.Only.{IsOpenComment, IsNestedSort}
-use Rattle.wild_script.specs.Section.{«section»}
+use Rattle.wild_script.specs.Section.{statement}
 use Rattle.wild_script.specs.declared.tree.LinkerScript.{LinkerScript}
 use Rattle.wild_script.specs.declared.tree.Command.{Command}
 use Rattle.wild_script.specs.declared.tree.Command.TheVariants.{Sections}
@@ -21,7 +21,7 @@ Bytes = place.Bytes
 -- ---- scripts
 
 unfoldable pub section_statements : Reader (List SectionCommand)
-section_statements = Until (begins 125) «section»
+section_statements = Until (begins 125) statement
 
 -- sections in braces
 unfoldable pub sections : Reader kept.Sections

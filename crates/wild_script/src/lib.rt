@@ -1,6 +1,7 @@
-//! Linker scripts as trees.
+//! Linker scripts as trees, and how they are read.
 #![tactic(auto)]
 
+mod assignment;
 mod parse;
 mod pattern;
 mod script;
@@ -8,9 +9,11 @@ mod section;
 mod tree;
 
 pub use tree::{
-    Command, ContentsCommand, LinkerScript, Matcher, Section, SectionCommand, SectionPattern,
-    Sections,
+    Command, ContentsCommand, LinkerScript, Location, Matcher, Section, SectionCommand,
+    SectionPattern, Sections,
 };
+pub use wild_expression::{AssertCommand, Expression, parse_expression};
+pub use wild_reading::skip_comments_and_whitespace;
 
 #[cfg(test)]
 mod tests;

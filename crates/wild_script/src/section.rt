@@ -5,8 +5,9 @@ ghost use Rattle.wild_reading.specs.Only.{Answers};
 ghost use Rattle.wild_reading.specs.Place.{ahead};
 ghost use Rattle.wild_script.specs.Section as spec;
 
+use crate::assignment::{assigned, begins_assignment, is_dot};
 use crate::pattern::pattern_list;
-use crate::tree::{ContentsCommand, Matcher, Section, SectionCommand};
+use crate::tree::{ContentsCommand, Location, Matcher, Section, SectionCommand};
 use sqlite_items::{Boxed, Items};
 use std::alloc::Global;
 use wild_base::Name;
@@ -81,20 +82,19 @@ fn no_tail(cursor: &Cursor<'_>) -> Result<(), Stop>
     }
 }
 
+// What stands behind the name of a section.
 #[tactic(auto, using(wild_reading::proofs::Readers::reading), unfolding(crate::specs::Section::section))]
-fn section(cursor: &mut Cursor<'_>, alloc: Global) -> Result<SectionCommand, Stop>
-    ensures read { Answers spec.«section» cursor.old cursor.new result }
-    ensures shorter { OnOk result (ahead cursor.new < ahead cursor.old) }
+fn section(cursor: &mut Cursor<'_>, alloc: Global, name: &[u8]) -> Result<SectionCommand, Stop>
+    ensures { Answers (spec.«section» name.now) cursor.old cursor.new result }
 {
-    let name = cursor.word()?;
-    cursor.check(is_section_name(name.content()))?;
+    cursor.check(is_section_name(name))?;
     cursor.symbol(b':')?;
     cursor.symbol(b'{')?;
     let commands = contents(cursor, alloc)?;
     cursor.symbol(b'}')?;
     no_tail(cursor)?;
     cursor.optional_symbol(b',')?;
-    let output_section_name = Name::new(alloc, name.content())?;
+    let output_section_name = Name::new(alloc, name)?;
     let section = Section {
         output_section_name,
         commands,
@@ -102,10 +102,43 @@ fn section(cursor: &mut Cursor<'_>, alloc: Global) -> Result<SectionCommand, Sto
     Ok(SectionCommand::Section(Boxed::new(alloc, section)?))
 }
 
+// What is assigned to the location counter, where the name is its.
+#[tactic(auto, using(wild_reading::proofs::Readers::reading), unfolding(crate::specs::Section::location))]
+fn location(cursor: &mut Cursor<'_>, alloc: Global, name: &[u8]) -> Result<SectionCommand, Stop>
+    ensures { Answers (spec.location name.now) cursor.old cursor.new result }
+{
+    cursor.check(is_dot(name))?;
+    let value = assigned(cursor, alloc, name)?;
+    cursor.symbol(b';')?;
+    Ok(SectionCommand::SetLocation(Location {
+        address: value.into_inner(),
+    }))
+}
+
+#[tactic(auto, using(wild_reading::proofs::Readers::choosing), unfolding(crate::specs::Section::behind))]
+fn behind(cursor: &mut Cursor<'_>, alloc: Global, name: &[u8]) -> Result<SectionCommand, Stop>
+    ensures { Answers (spec.behind name.now) cursor.old cursor.new result }
+{
+    if begins_assignment(cursor) {
+        location(cursor, alloc, name)
+    } else {
+        section(cursor, alloc, name)
+    }
+}
+
+#[tactic(auto, using(wild_reading::proofs::Readers::reading), unfolding(crate::specs::Section::statement))]
+fn statement(cursor: &mut Cursor<'_>, alloc: Global) -> Result<SectionCommand, Stop>
+    ensures read { Answers spec.statement cursor.old cursor.new result }
+    ensures shorter { OnOk result (ahead cursor.new < ahead cursor.old) }
+{
+    let name = cursor.word()?;
+    behind(cursor, alloc, name.content())
+}
+
 impl Grammar for SectionCommand {
-    ghost reads = { spec.«section» };
+    ghost reads = { spec.statement };
 
     fn read(cursor: &mut Cursor<'_>, alloc: Global) -> Result<SectionCommand, Stop> {
-        section(cursor, alloc)
+        statement(cursor, alloc)
     }
 }

@@ -1,4 +1,6 @@
-use crate::{Command, ContentsCommand, LinkerScript, Section, SectionCommand};
+use crate::{
+    Command, ContentsCommand, LinkerScript, Section, SectionCommand, skip_comments_and_whitespace,
+};
 use std::alloc::{AllocError, Global};
 use std::test::Fail;
 use wild_base::{Fault, Name};
@@ -25,6 +27,13 @@ fn push_section(out: &mut String, section: &Section) -> Result<(), AllocError> {
     out.push(';')
 }
 
+fn push_statement(out: &mut String, statement: &SectionCommand) -> Result<(), AllocError> {
+    match statement {
+        SectionCommand::Section(section) => push_section(out, section.get()),
+        SectionCommand::SetLocation(_) => out.push('='),
+    }
+}
+
 // The sections, their matchers and the names in them, or the position of the fault.
 fn outline(alloc: Global, text: &[u8]) -> Result<String, AllocError> {
     let mut out = String::new(alloc);
@@ -33,8 +42,7 @@ fn outline(alloc: Global, text: &[u8]) -> Result<String, AllocError> {
             for command in script.commands.as_slice() {
                 let Command::Sections(sections) = command;
                 for statement in sections.commands.as_slice() {
-                    let SectionCommand::Section(section) = statement;
-                    push_section(&mut out, section.get())?;
+                    push_statement(&mut out, statement)?;
                 }
                 out.push('.')?;
             }
@@ -48,7 +56,7 @@ fn outline(alloc: Global, text: &[u8]) -> Result<String, AllocError> {
 
 #[test]
 fn outlines(rt: HostRuntime) -> Result<(), Fail> {
-    let cases: [(&[u8], &str); 24] = [
+    let cases: [(&[u8], &str); 32] = [
         (b"", ""),
         (b"/*/", ""),
         (b" # a line\n/* and more */\t\r\n", ""),
@@ -82,9 +90,70 @@ fn outlines(rt: HostRuntime) -> Result<(), Fail> {
         (b"SECTIONS { .a : { *(.t*) } }", "syntax 23"),
         (b"SECTIONS { .a : { *(SORTED) } }", "syntax 26"),
         (b"SECTIONS { .a : { f.o(.a) } }", "syntax 21"),
+        (b"SECTIONS { . = 1 ; .a : { } . = 2 + . ; }", "=.a:;=."),
+        (b"SECTIONS { . = 1 /* c */; }", "syntax 18"),
+        (
+            b"SECTIONS { . += 1; . -= 2; . *= 3; . /= 4; . <<= 5; . >>= 6; . &= 7; . |= 8; . ^= 9; }",
+            "=========.",
+        ),
+        (b"SECTIONS { . == 1; }", "syntax 13"),
+        (b"SECTIONS { . =/ 1; }", "syntax 13"),
+        (b"SECTIONS { . < = 1; }", "syntax 13"),
+        (b"SECTIONS { . = 1 }", "syntax 17"),
+        (b"SECTIONS { x = 1; }", "syntax 13"),
     ];
     for (text, expected) in cases {
         assert_eq!(rt; outline(rt.alloc(), text)?.as_str(), expected, "{text:?}");
+    }
+    Ok(())
+}
+
+// The first location of a script as its derived text.
+fn first_location(alloc: Global, text: &[u8]) -> Result<String, AllocError> {
+    let Ok(script) = LinkerScript::parse(alloc, text) else {
+        return String::from_str(alloc, "none");
+    };
+    for command in script.commands.as_slice() {
+        let Command::Sections(sections) = command;
+        for statement in sections.commands.as_slice() {
+            if let SectionCommand::SetLocation(location) = statement {
+                return format!(in alloc; "{location:?}");
+            }
+        }
+    }
+    String::from_str(alloc, "none")
+}
+
+#[test]
+fn locations(rt: HostRuntime) -> Result<(), Fail> {
+    let cases: [(&[u8], &str); 2] = [
+        (
+            b"SECTIONS { . = 4K; }",
+            "Location { address: Number(4096) }",
+        ),
+        (
+            b"SECTIONS { . <<= 2 + 3; }",
+            "Location { address: LeftShift(Boxed { inner: LocationCounter }, Boxed { inner: Add(Boxed { inner: Number(2) }, Boxed { inner: Number(3) }) }) }",
+        ),
+    ];
+    for (text, expected) in cases {
+        assert_eq!(rt; first_location(rt.alloc(), text)?.as_str(), expected);
+    }
+    Ok(())
+}
+
+#[test]
+fn gaps(rt: HostRuntime) -> Result<(), Fail> {
+    let cases: [(&[u8], usize, Result<usize, Fault>); 6] = [
+        (b"", 0, Ok(0)),
+        (b" \t# line\n /* c */ x", 0, Ok(18)),
+        (b"/*/x", 0, Ok(3)),
+        (b"x # line", 1, Err(Fault::Syntax { position: 3 })),
+        (b"x # l\n /* c", 1, Err(Fault::UnclosedComment { position: 7 })),
+        (b"x", 1, Ok(1)),
+    ];
+    for (text, position, expected) in cases {
+        assert_eq!(rt; skip_comments_and_whitespace(text, position), expected, "{text:?}");
     }
     Ok(())
 }

@@ -2,6 +2,7 @@
 
 use sqlite_items::{Boxed, Items};
 use wild_base::Name;
+use wild_expression::Expression;
 
 /// A script: its outermost commands in text order.
 #[derive(Debug, Drop)]
@@ -25,6 +26,14 @@ pub struct Sections {
 #[derive(Debug, Drop)]
 pub enum SectionCommand {
     Section(Boxed<Section>),
+    /// `. = e;`, or another operator
+    SetLocation(Location),
+}
+
+/// What the location counter becomes.
+#[derive(Debug, Drop)]
+pub struct Location {
+    pub address: Expression,
 }
 
 /// An output section.
