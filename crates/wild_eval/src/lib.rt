@@ -1,0 +1,7 @@
+//! Values of expressions.
+#![tactic(auto)]
+
+mod arithmetic;
+mod table;
+
+pub use table::{Numbers, Table};

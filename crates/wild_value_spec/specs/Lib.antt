@@ -1,0 +1,4 @@
+pub mod Answer
+pub mod Known
+pub mod Numbers
+pub mod Value
