@@ -12,6 +12,8 @@ use Rattle.wild_script.specs.declared.tree.LinkerScript.{LinkerScript}
 use Rattle.wild_script.specs.declared.tree.Section.{Section}
 use Rattle.wild_plan_spec.specs.declared.row.InputRow.{InputRow}
 use Rattle.wild_plan_spec.specs.Names.{Name}
+use Rattle.wild_plan_spec.specs.Built.{is_built}
+use Rattle.wild_plan_spec.specs.Places.{Place, SetLocation, places_of}
 use Rattle.wild_plan_spec.specs.Rules.{Rule, sections_of, rules_of, chunk_of}
 
 -- a condition, and the fault that stands for its failure
@@ -23,6 +25,12 @@ pub record Check : Type 0 where
 abbrev pub row_checks : ℕ → List InputRow → List Check
 row_checks n [] = []
 row_checks n (row ∷ rows) = record { holds = is_some (exponent_of row.alignment); fault = BadRow n } ∷ row_checks (n + 1) rows
+
+-- each location has an expression that is built; the first place of the list has the number n
+abbrev pub place_checks : ℕ → List Place → List Check
+place_checks n [] = []
+place_checks n (SetLocation e ∷ ps) = record { holds = is_built e; fault = Unsupported n } ∷ place_checks (n + 1) ps
+place_checks n (p ∷ ps) = place_checks (n + 1) ps
 
 -- no section has a name that stands earlier
 abbrev pub name_checks : List Name → List Section → List Check
@@ -40,7 +48,7 @@ support_checks rules n (row ∷ rows) = record { holds = is_some (chunk_of rules
 
 -- the conditions, in the order in which they are looked at
 abbrev pub checks : LinkerScript → List InputRow → List Check
-checks t rows = row_checks 0 rows ++ name_checks [] (sections_of t) ++ support_checks (rules_of t) 0 rows
+checks t rows = row_checks 0 rows ++ place_checks 0 (places_of t) ++ name_checks [] (sections_of t) ++ support_checks (rules_of t) 0 rows
 
 -- the fault of the first condition that fails
 abbrev pub failing : List Check → Option Fault

@@ -6,7 +6,8 @@ use Rattle.wild_script.specs.declared.tree.LinkerScript.{LinkerScript}
 use Rattle.wild_plan_spec.specs.declared.chunk.Chunk.{Chunk}
 use Rattle.wild_plan_spec.specs.declared.chunk.ChunkRow.{ChunkRow}
 use Rattle.wild_plan_spec.specs.declared.row.InputRow.{InputRow}
-use Rattle.wild_plan_spec.specs.Rules.{rules_of}
+use Rattle.wild_plan_spec.specs.Rules.{sections_of, rules_of}
+use Rattle.wild_plan_spec.specs.Settings.{setting_of}
 use Rattle.wild_plan_spec.specs.Chunks.{rows_in, section_rows, largest_alignment}
 use Rattle.wild_plan_spec.specs.Order.{IsOrdered, stands_before}
 use Rattle.wild_plan_spec.specs.Checks.{checks, failing}
@@ -30,15 +31,15 @@ module _ (t : LinkerScript) (rows : List InputRow) where
     pub order : Chunk → List ChunkRow
     pub ordered : AreOrdered order
     pub state : State
-    pub stands : Stands section_alignment order (places_of t) (length (places_of t)) state
-    pub listed : plan ≡ layout t rows state.known
+    pub stands : Stands (setting_of (sections_of t)) section_alignment order (places_of t) (length (places_of t)) state
+    pub listed : plan ≡ layout t rows state
 
   -- All checks hold, and a place refuses.
   pub record LayoutFault (fault : Fault) : Type 0 where
     pub sound : failing (checks t rows) ≡ None
     pub order : Chunk → List ChunkRow
     pub ordered : AreOrdered order
-    pub refuses : Refuses section_alignment order (places_of t) fault
+    pub refuses : Refuses (setting_of (sections_of t)) section_alignment order (places_of t) fault
 
   -- the first check that fails, or the first place that refuses
   abbrev pub FaultIn : Fault → Type 0

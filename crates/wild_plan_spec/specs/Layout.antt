@@ -1,6 +1,5 @@
 -- What a plan lists.
 use Rattle.std.specs.Prelude.{ℕ, ◌+◌, ◌-◌, true, List, [], ◌∷◌, Option, Some, None, if◌then◌else◌}
-use Rattle.std.specs.Option.{unwrap_or}
 use Rattle.std.specs.List.{list_any}
 use Rattle.wild_base.specs.InputFlags.{is_write, is_exec}
 use Rattle.wild_base.specs.declared.input_flags.InputFlags.{InputFlags}
@@ -9,12 +8,14 @@ use Rattle.wild_script.specs.declared.tree.Section.{Section}
 use Rattle.wild_plan_spec.specs.declared.chunk.Chunk.{Chunk}
 use Rattle.wild_plan_spec.specs.declared.row.InputRow.{InputRow}
 use Rattle.wild_plan_spec.specs.declared.placed.PlacedSection.{PlacedSection}
+use Rattle.wild_plan_spec.specs.declared.placed.PlacedLocation.{PlacedLocation}
 use Rattle.wild_plan_spec.specs.declared.placed.PlacedInput.{PlacedInput}
 use Rattle.wild_plan_spec.specs.declared.placed.PlacedInput.TheVariants.{Discarded, Placed}
 use Rattle.wild_plan_spec.specs.declared.placed.RowNames.{RowNames}
 use Rattle.wild_plan_spec.specs.Rules.{Rule, sections_of, rules_of, chunk_of}
 use Rattle.wild_plan_spec.specs.Chunks.{section_rows, largest_alignment}
-use Rattle.wild_plan_spec.specs.Known.{Entry, Known, Start, Load, End, Address}
+use Rattle.wild_value_spec.specs.Known.{Known, Start, Load, End, Address, number_at}
+use Rattle.wild_plan_spec.specs.Line.{State}
 
 -- a plan, as callers see it
 pub record Layout : Type 0 where
@@ -23,10 +24,9 @@ pub record Layout : Type 0 where
   pub sections : List PlacedSection
   -- in table order
   pub placements : List PlacedInput
+  -- in text order
+  pub locations : List PlacedLocation
   pub names : List RowNames
-
-abbrev pub number_at : Known → Entry → ℕ
-number_at known x = unwrap_or (known x) 0
 
 -- in memory, and writable or executable where some row is
 abbrev pub flags_of : List InputRow → InputFlags
@@ -66,11 +66,12 @@ abbrev pub row_names : List InputRow → List RowNames
 row_names [] = []
 row_names (row ∷ rows) = record { file = row.file; «section» = row.«section» } ∷ row_names rows
 
--- what is listed of a script and its rows where these numbers are known
-abbrev pub layout : LinkerScript → List InputRow → Known → Layout
-layout t rows known = record {
+-- what is listed of a script and its rows where this stands behind the last place
+abbrev pub layout : LinkerScript → List InputRow → State → Layout
+layout t rows state = record {
   script = t;
-  sections = placed_sections known (rules_of t) rows 0 (sections_of t);
-  placements = placed_inputs known (rules_of t) 0 rows;
+  sections = placed_sections state.known (rules_of t) rows 0 (sections_of t);
+  placements = placed_inputs state.known (rules_of t) 0 rows;
+  locations = state.locations;
   names = row_names rows;
 }

@@ -2,9 +2,10 @@ pub mod Names
 pub mod Rules
 pub mod Chunks
 pub mod Order
-pub mod Checks
+pub mod Built
 pub mod Places
-pub mod Known
+pub mod Settings
+pub mod Checks
 pub mod Line
 pub mod Walk
 pub mod Layout

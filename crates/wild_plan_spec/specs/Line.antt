@@ -1,20 +1,17 @@
 -- What each place of a script does to what stands before it.
-use Rattle.std.specs.Prelude.{ℕ, ◌+◌, ◌^◌, nat_lt, if◌then◌else◌, List, [], ◌∷◌, Result, Ok, Err}
+use Rattle.std.specs.Prelude.{ℕ, zero, suc, ◌+◌, ◌^◌, ◌&&◌, Bool, nat_lt, if◌then◌else◌, List, [], ◌∷◌, ◌++◌, Option, Some, None, Result, Ok, Err}
 use Rattle.wild_base.specs.Alignment.{rounded_up}
 use Rattle.wild_base.specs.declared.fault.Fault.{Fault}
-use Rattle.wild_base.specs.declared.fault.Fault.TheVariants.{Overflow, AlignOverflow}
+use Rattle.wild_base.specs.declared.fault.Fault.TheVariants.{Overflow, AlignOverflow, Overlap}
+use Rattle.wild_expression_tree.specs.declared.tree.Expression.{Expression}
+use Rattle.wild_value_spec.specs.Answer.{◌>>=◌}
+use Rattle.wild_value_spec.specs.Known.{Known, Start, Load, End, Address, Dot, nothing, number_at, with_entry}
+use Rattle.wild_value_spec.specs.Value.{Setting, full}
 use Rattle.wild_plan_spec.specs.declared.chunk.Chunk.{Chunk}
 use Rattle.wild_plan_spec.specs.declared.chunk.ChunkRow.{ChunkRow}
-use Rattle.wild_plan_spec.specs.declared.chunk.Place.{Place}
-use Rattle.wild_plan_spec.specs.declared.chunk.Place.TheVariants.{Open, Rows, Close}
+use Rattle.wild_plan_spec.specs.declared.placed.PlacedLocation.{PlacedLocation}
 use Rattle.wild_plan_spec.specs.Chunks.{largest}
-use Rattle.wild_plan_spec.specs.Known.{Known, Start, Load, End, Address, nothing, with_entry}
-
--- the next step, on the value of the one before
-infixl 10 ◌>>=◌
-abbrev pub ◌>>=◌ : {A B : Type 0} → Result A Fault → (A → Result B Fault) → Result B Fault
-(Ok x) >>= f = f x
-(Err e) >>= f = Err e
+use Rattle.wild_plan_spec.specs.Places.{Place, SetLocation, Open, Rows, Close}
 
 -- what stands before a place
 pub record State : Type 0 where
@@ -23,10 +20,12 @@ pub record State : Type 0 where
   -- where the next row of the open section goes
   pub cursor : ℕ
   pub known : Known
+  -- what the statements so far made of the location counter
+  pub locations : List PlacedLocation
 
 -- before the first place
 abbrev pub first_state : State
-first_state = record { counter = 0; cursor = 0; known = nothing }
+first_state = record { counter = 0; cursor = 0; known = nothing; locations = [] }
 
 -- the next multiple of 2 ^ exponent from x on
 unfoldable pub up : ℕ → ℕ → Result ℕ Fault
@@ -35,11 +34,7 @@ up x exponent = if nat_lt (rounded_up (2 ^ exponent) x) (2 ^ 64) then Ok (rounde
 unfoldable pub sum_of : ℕ → ℕ → Result ℕ Fault
 sum_of a b = if nat_lt (a + b) (2 ^ 64) then Ok (a + b) else Err (Overflow a b)
 
--- a section starts, and is loaded, at the next multiple of its alignment
-unfoldable pub opened : ℕ → ℕ → State → Result State Fault
-opened s alignment st =
-    up st.counter alignment >>= (λ n.
-    Ok (record st { cursor = n; known = with_entry (Load s) n (with_entry (Start s) n st.known) }))
+-- ---- rows
 
 -- a row stands at the cursor, and takes its size rounded up to its alignment
 unfoldable pub row_placed : ChunkRow → State → Result State Fault
@@ -58,13 +53,56 @@ chunk_placed rows st =
     up st.cursor (largest rows) >>= (λ n.
     rows_placed rows (record st { cursor = n }))
 
--- a section ends at the cursor, and so does the counter
-unfoldable pub closed : ℕ → State → Result State Fault
-closed s st = Ok (record st { counter = st.cursor; known = with_entry (End s) st.cursor st.known })
+-- ---- sections
 
--- what stands behind a place, or its first refusal; rows has the rows of each chunk in their order, and alignment
--- the alignment of each section
-unfoldable pub line : (ℕ → ℕ) → (Chunk → List ChunkRow) → Place → State → Result State Fault
-line alignment rows (Open s) st = opened s (alignment s) st
-line alignment rows (Rows q) st = chunk_placed (rows q) st
-line alignment rows (Close s) st = closed s st
+-- a section starts, and is loaded, at the next multiple of its alignment
+unfoldable pub opened : ℕ → ℕ → State → Result State Fault
+opened s alignment st =
+    up st.counter alignment >>= (λ n.
+    Ok (record st { cursor = n; known = with_entry (Load s) n (with_entry (Start s) n st.known) }))
+
+-- whether an earlier section holds one of the addresses from start up to end
+unfoldable pub shares : Known → ℕ → ℕ → ℕ → Bool
+shares known start end s =
+    nat_lt (number_at known (Start s)) (number_at known (End s)) && (nat_lt start end
+    && (nat_lt start (number_at known (End s)) && nat_lt (number_at known (Start s)) end))
+
+-- of two sections the one that starts lower, or the first of them
+abbrev pub lower : Known → Option ℕ → Option ℕ → Option ℕ
+lower known None found = found
+lower known (Some s) None = Some s
+lower known (Some s) (Some t) = if nat_lt (number_at known (Start t)) (number_at known (Start s)) then Some t else Some s
+
+-- of the sections with numbers below n that share an address with those from start up to end, the one that starts lowest
+abbrev pub sharing : Known → ℕ → ℕ → ℕ → Option ℕ
+sharing known start end zero = None
+sharing known start end (suc n) = lower known (sharing known start end n) (if shares known start end n then Some n else None)
+
+-- a section ends at the cursor, and so does the counter
+unfoldable pub ended : ℕ → State → Result State Fault
+ended s st = Ok (record st { counter = st.cursor; known = with_entry (End s) st.cursor st.known })
+
+module _ (setting : Setting) where
+  abbrev pub closed_by : ℕ → Option ℕ → State → Result State Fault
+  closed_by s None st = ended s st
+  closed_by s (Some other) st = Err (Overlap (setting.section_name other) (setting.section_name s))
+
+  -- a section ends, unless it shares an address with an earlier one
+  unfoldable pub closed : ℕ → State → Result State Fault
+  closed s st = closed_by s (sharing st.known (number_at st.known (Start s)) st.cursor s) st
+
+  -- ---- locations
+
+  -- the counter becomes the full value of the expression, in which `.` is the counter as it was
+  unfoldable pub location_set : ℕ → Expression → State → Result State Fault
+  location_set i e st =
+      full setting i (with_entry (Dot i) st.counter st.known) 1024 e (record { place = i; «section» = None }) >>= (λ n.
+      Ok (record st { counter = n; known = with_entry (Dot i) st.counter st.known; locations = st.locations ++ record { statement = i; address = n } ∷ [] }))
+
+  -- what stands behind place i, or its first refusal; rows has the rows of each chunk in their order, and alignment
+  -- the alignment of each section
+  unfoldable pub line : (ℕ → ℕ) → (Chunk → List ChunkRow) → ℕ → Place → State → Result State Fault
+  line alignment rows i (SetLocation e) st = location_set i e st
+  line alignment rows i (Open s) st = opened s (alignment s) st
+  line alignment rows i (Rows q) st = chunk_placed (rows q) st
+  line alignment rows i (Close s) st = closed s st

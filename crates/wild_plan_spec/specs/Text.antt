@@ -6,6 +6,7 @@ use Rattle.wild_base.specs.declared.input_flags.InputFlags.{InputFlags}
 use Rattle.wild_plan_spec.specs.declared.placed.PlacedSection.{PlacedSection}
 use Rattle.wild_plan_spec.specs.declared.placed.PlacedInput.{PlacedInput}
 use Rattle.wild_plan_spec.specs.declared.placed.PlacedInput.TheVariants.{Discarded, Placed}
+use Rattle.wild_plan_spec.specs.declared.placed.PlacedLocation.{PlacedLocation}
 use Rattle.wild_plan_spec.specs.declared.placed.RowNames.{RowNames}
 use Rattle.wild_plan_spec.specs.Names.{Name}
 use Rattle.wild_plan_spec.specs.Layout.{Layout}
@@ -99,6 +100,10 @@ input_lines sections n [] names = []
 input_lines sections n (p ∷ ps) [] = []
 input_lines sections n (p ∷ ps) (x ∷ xs) = input_line sections n p x ++ input_lines sections (n + 1) ps xs
 
--- the text of a plan: a line for each section, then one for each row
+-- `location STATEMENT ADDRESS`
+unfoldable pub location_line : PlacedLocation → List ℕ
+location_line l = codes "location" ++ field (decimal l.statement) ++ field (printed_address l.address) ++ 10 ∷ []
+
+-- the text of a plan: a line for each section, then one for each row, then one for each location
 abbrev pub plan_text : Layout → List ℕ
-plan_text plan = flat_map section_line plan.sections ++ input_lines plan.sections 0 plan.placements plan.names
+plan_text plan = flat_map section_line plan.sections ++ input_lines plan.sections 0 plan.placements plan.names ++ flat_map location_line plan.locations

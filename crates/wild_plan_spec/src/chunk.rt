@@ -1,4 +1,4 @@
-//! Chunks of sections, the rows in them, and the places of a script.
+//! Chunks of sections, and the rows in them.
 
 use std::cmp::Reverse;
 use wild_base::Alignment;
@@ -20,15 +20,4 @@ pub struct ChunkRow {
     pub size: u64,
     /// The chunk that holds it.
     pub chunk: Chunk,
-}
-
-/// A place of a script. A section has an Open, the places of its statements, and a Close.
-#[derive(Clone, Copy, Debug, PartialEq, Eq)]
-pub enum Place {
-    /// The section of this number begins.
-    Open(usize),
-    /// The rows of a chunk.
-    Rows(Chunk),
-    /// The section of this number ends.
-    Close(usize),
 }

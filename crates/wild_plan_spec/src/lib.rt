@@ -6,7 +6,7 @@ mod laws;
 mod placed;
 mod row;
 
-pub use chunk::{Chunk, ChunkRow, Place};
+pub use chunk::{Chunk, ChunkRow};
 pub use laws::{one_fault, one_plan_fits, plan_or_fault, rows_have_one_order};
-pub use placed::{Names, PlacedInput, PlacedSection, RowNames};
+pub use placed::{Names, PlacedInput, PlacedLocation, PlacedSection, RowNames};
 pub use row::{InputRow, InputRows, InputTable};

@@ -43,3 +43,11 @@ pub struct RowNames {
     pub file: Name,
     pub section: Name,
 }
+
+/// What a statement makes of the location counter.
+#[derive(Clone, Copy, Debug, PartialEq, Eq)]
+pub struct PlacedLocation {
+    /// The place of the statement in its script.
+    pub statement: usize,
+    pub address: u64,
+}
