@@ -1,13 +1,13 @@
 //! Names, numbers and plans as they are printed.
 
 ghost use Rattle.std.specs.Prelude.{◌≡◌, ◌<◌, ◌++◌, ◌∷◌, OnOk, IfOk, string_bytes, decimal, flat_map};
-ghost use Rattle.wild_plan_spec.specs.Text.{is_plain, printed_byte, printed_name, printed_address, field, letter, letters_of, printed_flags, printed_fill, printed_region, more_names, printed_names, name_at, section_line, input_line, input_lines};
+ghost use Rattle.wild_plan_spec.specs.Text.{is_plain, printed_byte, printed_name, printed_address, field, letter, letters_of, printed_flags, printed_fill, printed_region, more_names, printed_names, name_at, section_line, input_line, input_lines, location_line};
 
 use bitflags::Flags;
 use std::alloc::{AllocError, Global};
 use std::fmt::Write;
 use wild_base::{InputFlags, Name, NoMemory};
-use wild_plan_spec::{PlacedInput, PlacedSection, RowNames};
+use wild_plan_spec::{PlacedInput, PlacedLocation, PlacedSection, RowNames};
 
 /// A name as it is printed: visible bytes as they are, any other, a backslash and a comma as `\x` and two hexadecimal
 /// digits. The empty name is `-`, and the name `-` is `\x2d`. Fails where memory runs out.
@@ -28,19 +28,21 @@ pub fn address_text(alloc: Global, value: u64) -> Result<Name, NoMemory>
     Ok(name_of(out))
 }
 
-/// The text of a plan that lists these: a line for each section, then one for each row. The names are those of the
-/// rows, in table order.
+/// The text of a plan that lists these: a line for each section, then one for each row, then one for each location. The
+/// names are those of the rows, in table order.
 pub fn lines_text(
     alloc: Global,
     sections: &[PlacedSection],
     placements: &[PlacedInput],
     names: &[RowNames],
+    locations: &[PlacedLocation],
 ) -> Result<Name, NoMemory>
-    ensures { IfOk result (λ text. text ≡ flat_map section_line sections.now ++ input_lines sections.now 0 placements.now names.now) }
+    ensures { IfOk result (λ text. text ≡ flat_map section_line sections.now ++ input_lines sections.now 0 placements.now names.now ++ flat_map location_line locations.now) }
 {
     let mut out = String::new(alloc);
     push_section_lines(&mut out, sections)?;
     push_input_lines(&mut out, sections, placements, names)?;
+    push_location_lines(&mut out, locations)?;
     Ok(name_of(out))
 }
 
@@ -288,4 +290,24 @@ fn push_section_name_field(
         Some(section) => push_name_field(out, section.name.bytes()),
         None => push_name_field(out, &[]),
     }
+}
+
+#[tactic(auto, using(std::proofs::lemmas::List::flat_map_more))]
+fn push_location_lines(out: &mut String, locations: &[PlacedLocation]) -> Result<(), AllocError>
+    ensures { OnOk result (string_bytes out.new ≡ string_bytes out.old ++ flat_map location_line locations.now) }
+{
+    for location in locations {
+        push_location_line(out, location)?;
+    }
+    Ok(())
+}
+
+#[tactic(auto, unfolding(wild_plan_spec::specs::Text::location_line))]
+fn push_location_line(out: &mut String, location: &PlacedLocation) -> Result<(), AllocError>
+    ensures { OnOk result (string_bytes out.new ≡ string_bytes out.old ++ location_line location.now) }
+{
+    out.push_str("location")?;
+    push_number_field(out, location.statement as u64)?;
+    push_address_field(out, location.address)?;
+    out.push('\n')
 }
