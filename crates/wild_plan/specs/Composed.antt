@@ -11,7 +11,8 @@ use Rattle.wild_plan_spec.specs.Rules.{sections_of, rules_of}
 use Rattle.wild_plan_spec.specs.Chunks.{is_of, largest_alignment}
 use Rattle.wild_plan_spec.specs.Checks.{checks, failing}
 use Rattle.wild_plan_spec.specs.Order.{IsOrdered, stands_before}
-use Rattle.wild_plan_spec.specs.Places.{all_places}
+use Rattle.wild_plan_spec.specs.Places.{Place, places_of}
+use Rattle.wild_plan_spec.specs.Settings.{setting_of}
 use Rattle.wild_plan_spec.specs.Line.{State}
 use Rattle.wild_plan_spec.specs.Walk.{Stands, Refuses}
 use Rattle.wild_plan_spec.specs.Layout.{row_names}
@@ -20,6 +21,7 @@ use Rattle.wild_plan.specs.declared.planning.Lists.{Lists}
 use Rattle.wild_plan.specs.declared.traits.Traits.{Traits}
 use Rattle.wild_plan.specs.Listed.{sections_by}
 use Rattle.wild_plan.specs.Pointed.{pointed}
+use Rattle.wild_plan.specs.Shown.{shown}
 use Rattle.wild_plan.specs.Traits.{traits_of}
 use Rattle.wild_plan.specs.With.{AreChunks, kept_with, section_rows_with, placed_with}
 
@@ -27,6 +29,7 @@ use Rattle.wild_plan.specs.With.{AreChunks, kept_with, section_rows_with, placed
 pub record IsChecked (t : LinkerScript) (rows : List InputRow) (checked : Checked) : Type 0 where
   pub sound : failing (checks t rows) ≡ None
   pub sections : pointed checked.sections ≡ sections_of t
+  pub places : shown checked.places ≡ places_of t
   pub chunks : AreChunks (rules_of t) rows checked.chunks
 
 module _ (rows : List InputRow) (chunks : List Chunk) where
@@ -43,17 +46,18 @@ module _ (rows : List InputRow) (chunks : List Chunk) where
   traits_with s = traits_of (section_rows_with s rows chunks)
 
 -- all places are laid out, and the lists say what is then known
-pub record IsLaidOut (sections : List Section) (rows : List InputRow) (chunks : List Chunk) (lists : Lists) : Type 0 where
+pub record IsLaidOut (sections : List Section) (places : List Place) (rows : List InputRow) (chunks : List Chunk) (lists : Lists) : Type 0 where
   pub order : Chunk → List ChunkRow
   pub ordered : AreOrderedWith rows chunks order
   pub state : State
-  pub stands : Stands (alignment_with rows chunks) order (all_places 0 sections) (length (all_places 0 sections)) state
+  pub stands : Stands (setting_of sections) (alignment_with rows chunks) order places (length places) state
   pub section_list : lists.sections ≡ sections_by state.known (traits_with rows chunks) 0 sections
   pub placement_list : lists.placements ≡ placed_with state.known 0 chunks
+  pub location_list : lists.locations ≡ state.locations
   pub name_list : lists.names ≡ row_names rows
 
 -- a place refuses
-pub record IsRefused (sections : List Section) (rows : List InputRow) (chunks : List Chunk) (fault : Fault) : Type 0 where
+pub record IsRefused (sections : List Section) (places : List Place) (rows : List InputRow) (chunks : List Chunk) (fault : Fault) : Type 0 where
   pub order : Chunk → List ChunkRow
   pub ordered : AreOrderedWith rows chunks order
-  pub refuses : Refuses (alignment_with rows chunks) order (all_places 0 sections) fault
+  pub refuses : Refuses (setting_of sections) (alignment_with rows chunks) order places fault

@@ -1,9 +1,9 @@
 pub mod Pointed
+pub mod Shown
 pub mod Paired
 pub mod Passes
 pub mod Traits
 pub mod With
-pub mod Table
 pub mod Chunks
 pub mod Moves
 pub mod Listed

@@ -3,8 +3,7 @@ use Rattle.std.specs.Prelude.{ℕ, ◌+◌, ◌-◌, true, List, [], ◌∷◌, 
 use Rattle.wild_base.specs.declared.input_flags.InputFlags.{InputFlags}
 use Rattle.wild_script.specs.declared.tree.Section.{Section}
 use Rattle.wild_plan_spec.specs.declared.placed.PlacedSection.{PlacedSection}
-use Rattle.wild_plan_spec.specs.Known.{Known, Start, Load, End}
-use Rattle.wild_plan_spec.specs.Layout.{number_at}
+use Rattle.wild_value_spec.specs.Known.{Known, Start, Load, End, number_at}
 use Rattle.wild_plan.specs.declared.traits.Traits.{Traits}
 
 -- in memory, and writable or executable where some row is

@@ -1,8 +1,7 @@
--- What borrowed sections are.
+-- What borrowed parts of a tree are.
 use Rattle.std.specs.Prelude.{List, [], ◌∷◌}
 use denote.Ref.{Bor}
-use Rattle.wild_script.specs.declared.tree.Section.{Section}
 
-abbrev pub pointed : List (Bor Section) → List Section
+abbrev pub pointed : {A : Type 0} → List (Bor A) → List A
 pointed [] = []
-pointed (s ∷ ss) = s.now ∷ pointed ss
+pointed (x ∷ xs) = x.now ∷ pointed xs

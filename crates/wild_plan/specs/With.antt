@@ -7,8 +7,7 @@ use Rattle.wild_plan_spec.specs.declared.placed.PlacedInput.{PlacedInput}
 use Rattle.wild_plan_spec.specs.declared.placed.PlacedInput.TheVariants.{Placed}
 use Rattle.wild_plan_spec.specs.Rules.{Rule, chunk_of}
 use Rattle.wild_plan_spec.specs.Chunks.{alignment_of}
-use Rattle.wild_plan_spec.specs.Known.{Known, Address}
-use Rattle.wild_plan_spec.specs.Layout.{number_at}
+use Rattle.wild_value_spec.specs.Known.{Known, Address, number_at}
 
 -- each row has a chunk by the rules: this one
 abbrev pub AreChunks : List Rule → List InputRow → List Chunk → Type 0

@@ -2,11 +2,14 @@
 
 ghost use Rattle.std.specs.Prelude.{◌≡◌, [], ◌∷◌, ◌++◌, None, Some, OnOk, IfOk, IfErr};
 ghost use Rattle.wild_plan_spec.specs.Rules.{chunk_of};
-ghost use Rattle.wild_plan_spec.specs.Checks.{row_checks, name_checks, support_checks, is_plain, failing};
+ghost use Rattle.wild_plan_spec.specs.Checks.{row_checks, place_checks, name_checks, support_checks, is_plain, failing};
 ghost use Rattle.wild_plan.specs.Pointed.{pointed};
+ghost use Rattle.wild_plan.specs.Shown.{shown_place, shown};
 ghost use Rattle.wild_plan.specs.Passes.{Passes, IsWanted, repeated};
 ghost use Rattle.wild_plan.specs.With.{AreChunks};
 
+use crate::built::is_built;
+use crate::places::Place;
 use crate::rules::Rules;
 use bitflags::Flags;
 use sqlite_items::Items;
@@ -23,6 +26,28 @@ pub fn check_rows(rows: &[InputRow]) -> Result<(), Fault>
         if Alignment::new(row.alignment).is_err() {
             return Err(Fault::BadRow { row: number });
         }
+    }
+    Ok(())
+}
+
+// The fault of a place whose expression is not built.
+fn check_place(index: usize, place: &Place<'_>) -> Result<(), Fault>
+    ensures { Passes (failing (place_checks index (shown_place place.now ∷ []))) result }
+{
+    match place {
+        Place::SetLocation(expression) if !is_built(expression) => {
+            Err(Fault::Unsupported { index })
+        }
+        _ => Ok(()),
+    }
+}
+
+/// Checks that the expressions of all places are built. The fault is that of the first place with another.
+pub fn check_places(places: &[Place<'_>]) -> Result<(), Fault>
+    ensures { Passes (failing (place_checks 0 (shown places.now))) result }
+{
+    for (index, place) in places.iter().enumerate() {
+        check_place(index, place)?;
     }
     Ok(())
 }

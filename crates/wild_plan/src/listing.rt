@@ -4,16 +4,16 @@ ghost use Rattle.std.specs.Prelude.{◌≡◌, IfOk};
 ghost use Rattle.wild_plan_spec.specs.Layout.{row_names};
 ghost use Rattle.wild_plan.specs.Listed.{flags_by, section_by, sections_by};
 ghost use Rattle.wild_plan.specs.Pointed.{pointed};
-ghost use Rattle.wild_plan.specs.Table.{known_of};
+ghost use Rattle.wild_eval.specs.Table.{known_of};
 ghost use Rattle.wild_plan.specs.Traits.{traits_at};
 ghost use Rattle.wild_plan.specs.With.{placed_with};
 
-use crate::table::Table;
 use crate::traits::{SectionTraits, Traits};
 use bitflags::Flags;
 use sqlite_items::Items;
 use std::alloc::Global;
 use wild_base::{InputFlags, NoMemory};
+use wild_eval::Table;
 use wild_plan_spec::{Chunk, InputRow, PlacedInput, PlacedSection, RowNames};
 use wild_script::Section;
 

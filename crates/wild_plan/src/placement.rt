@@ -8,7 +8,7 @@ use sqlite_items::Items;
 use std::alloc::Global;
 use std::marker::Model;
 use wild_base::{Name, NoMemory};
-use wild_plan_spec::{PlacedInput, PlacedSection, RowNames};
+use wild_plan_spec::{PlacedInput, PlacedLocation, PlacedSection, RowNames};
 use wild_plan_text::lines_text;
 use wild_script::LinkerScript;
 
@@ -18,6 +18,7 @@ pub struct Plan {
     script: LinkerScript,
     sections: Items<PlacedSection>,
     placements: Items<PlacedInput>,
+    locations: Items<PlacedLocation>,
     names: Items<RowNames>,
 }
 
@@ -26,7 +27,7 @@ impl Model for Plan {
 
     ghost Value = { Layout };
 
-    ghost view = { λ p. record { script = p.script; sections = p.sections; placements = p.placements; names = p.names } };
+    ghost view = { λ p. record { script = p.script; sections = p.sections; placements = p.placements; locations = p.locations; names = p.names } };
 }
 
 impl Plan {
@@ -35,14 +36,16 @@ impl Plan {
         script: LinkerScript,
         sections: Items<PlacedSection>,
         placements: Items<PlacedInput>,
+        locations: Items<PlacedLocation>,
         names: Items<RowNames>,
     ) -> Plan
-        ensures { result ≡ record { script = script; sections = sections; placements = placements; names = names } }
+        ensures { result ≡ record { script = script; sections = sections; placements = placements; locations = locations; names = names } }
     {
         Plan {
             script,
             sections,
             placements,
+            locations,
             names,
         }
     }
@@ -68,6 +71,13 @@ impl Plan {
         self.placements.as_slice()
     }
 
+    /// What each statement made of the location counter, in text order.
+    pub fn locations(&self) -> &[PlacedLocation]
+        ensures { result.now ≡ self.now.locations }
+    {
+        self.locations.as_slice()
+    }
+
     /// The file of a row.
     pub fn row_file(&self, row: usize) -> &Name
         requires { row < length self.now.names }
@@ -84,7 +94,7 @@ impl Plan {
         &self.names.as_slice()[row].section
     }
 
-    /// The plan as it is printed: a line for each section, then one for each row.
+    /// The plan as it is printed: a line for each section, then one for each row, then one for each location.
     pub fn plan_text(&self, alloc: Global) -> Result<Name, NoMemory>
         ensures { IfOk result (λ text. text ≡ plan_text self.now) }
     {
@@ -93,6 +103,7 @@ impl Plan {
             self.sections(),
             self.placements(),
             self.names.as_slice(),
+            self.locations(),
         )
     }
 }

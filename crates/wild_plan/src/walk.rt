@@ -1,30 +1,39 @@
 //! The walk over the places of a script, which finds each address.
 
 ghost use Rattle.std.specs.Prelude.{◌≡◌, ◌⊎◌, ℕ, length, IfOk, IfErr};
-ghost use Rattle.wild_base.specs.declared.fault.Fault.TheVariants.{NoMemory};
+ghost use Rattle.wild_base.specs.declared.fault.Fault.TheVariants.{NoMemory, Overlap};
+ghost use Rattle.wild_value_spec.specs.Answer.{Returns};
+ghost use Rattle.wild_eval.specs.Setting.{setting_of};
 ghost use Rattle.wild_plan_spec.specs.Chunks.{largest};
-ghost use Rattle.wild_plan_spec.specs.Line.{State, first_state, up, sum_of, opened, row_placed, rows_placed, chunk_placed, closed, line};
+ghost use Rattle.wild_plan_spec.specs.Line.{first_state, up, sum_of, opened, row_placed, rows_placed, chunk_placed, ended, closed, location_set, line};
 ghost use Rattle.wild_plan_spec.specs.Walk.{Stands, Refuses};
 ghost use Rattle.wild_plan.specs.Chunks.{rows_at};
-ghost use Rattle.wild_plan.specs.Moves.{Returns, Moves, state_of};
-ghost use Rattle.wild_plan.specs.Table.{known_of};
+ghost use Rattle.wild_plan.specs.Moves.{Moves, state_of};
+ghost use Rattle.wild_plan.specs.Shown.{shown_place, shown};
 ghost use Rattle.wild_plan.specs.Traits.{traits_at};
 
 use crate::chunks::Chunks;
-use crate::table::Table;
+use crate::overlap::sharing;
+use crate::places::Place;
 use crate::traits::SectionTraits;
+use sqlite_items::Items;
 use std::alloc::Global;
-use wild_base::{Alignment, Fault, alignment};
-use wild_plan_spec::{ChunkRow, Place};
+use wild_base::{Alignment, Fault, Name, NoMemory, alignment};
+use wild_eval::{Reader, Table};
+use wild_plan_spec::{ChunkRow, PlacedLocation};
+use wild_script::Expression;
+use wild_value_spec::Point;
 
 /// What stands before a place.
 #[derive(Drop)]
-struct Walk {
+pub struct Walk {
     /// Where the next section goes.
     counter: u64,
     /// Where the next row of the open section goes.
     cursor: u64,
-    table: Table,
+    pub table: Table,
+    /// What the statements so far made of the location counter.
+    pub locations: Items<PlacedLocation>,
 }
 
 #[tactic(auto, unfolding(wild_plan_spec::specs::Line::up))]
@@ -61,6 +70,31 @@ fn largest(rows: &[ChunkRow]) -> Alignment
     most
 }
 
+/// The name of a section, or the empty one where there is none of this number.
+fn section_name(alloc: Global, names: &[&Name], section: usize) -> Result<Name, NoMemory>
+    ensures { IfOk result (λ name. name ≡ (setting_of names.now).section_name section) }
+{
+    match names.get(section) {
+        Some(name) => name.copy(alloc),
+        None => Name::new(alloc, b""),
+    }
+}
+
+/// The fault of two sections that share an address.
+fn overlap(
+    alloc: Global,
+    names: &[&Name],
+    first: usize,
+    second: usize,
+) -> Result<Fault, NoMemory>
+    ensures { IfOk result (λ fault. fault ≡ Overlap ((setting_of names.now).section_name first) ((setting_of names.now).section_name second)) }
+{
+    Ok(Fault::Overlap {
+        first: section_name(alloc, names, first)?,
+        second: section_name(alloc, names, second)?,
+    })
+}
+
 impl Walk {
     fn new(alloc: Global) -> Walk
         ensures { state_of result ≡ first_state }
@@ -69,6 +103,7 @@ impl Walk {
             counter: 0,
             cursor: 0,
             table: Table::new(alloc),
+            locations: Items::new(alloc),
         }
     }
 
@@ -111,40 +146,91 @@ impl Walk {
         self.place_rows(rows)
     }
 
-    #[tactic(auto, unfolding(wild_plan_spec::specs::Line::closed))]
-    fn close(&mut self, section: usize) -> Result<(), Fault>
-        ensures { Moves result self.new (closed section (state_of self.old)) }
+    #[tactic(auto, unfolding(wild_plan_spec::specs::Line::ended))]
+    fn end(&mut self, section: usize) -> Result<(), Fault>
+        ensures { Moves result self.new (ended section (state_of self.old)) }
     {
         self.table.learn_end(section, self.cursor)?;
         self.counter = self.cursor;
         Ok(())
     }
 
+    #[tactic(auto, unfolding(wild_plan_spec::specs::Line::closed))]
+    fn close(&mut self, alloc: Global, names: &[&Name], section: usize) -> Result<(), Fault>
+        ensures { Moves result self.new (closed (setting_of names.now) section (state_of self.old)) }
+    {
+        let start = self.table.start(section);
+        match sharing(&self.table, start, self.cursor, section) {
+            None => self.end(section),
+            Some(other) => Err(overlap(alloc, names, other, section)?),
+        }
+    }
+
+    #[tactic(auto, unfolding(wild_plan_spec::specs::Line::location_set))]
+    fn set_location(
+        &mut self,
+        alloc: Global,
+        names: &[&Name],
+        place: usize,
+        expression: &Expression,
+    ) -> Result<(), Fault>
+        ensures { Moves result self.new (location_set (setting_of names.now) place expression.now (state_of self.old)) }
+    {
+        self.table.learn_dot(place, self.counter)?;
+        let reader = Reader {
+            alloc,
+            names,
+            table: &self.table,
+            statement: place,
+        };
+        let address = reader.full(
+            expression,
+            Point {
+                place,
+                section: None,
+            },
+        )?;
+        self.locations.push(PlacedLocation {
+            statement: place,
+            address,
+        })?;
+        self.counter = address;
+        Ok(())
+    }
+
     #[tactic(auto, unfolding(wild_plan_spec::specs::Line::line))]
-    fn step(&mut self, traits: &SectionTraits, chunks: &Chunks, place: &Place) -> Result<(), Fault>
-        ensures { Moves result self.new (line (λ s. (traits_at traits.now s).alignment) (rows_at chunks.now) place.now (state_of self.old)) }
+    fn step(&mut self, given: &Given<'_>, number: usize, place: &Place<'_>) -> Result<(), Fault>
+        ensures { Moves result self.new (line (setting_of given.now.names.now) (λ s. (traits_at given.now.traits.now s).alignment) (rows_at given.now.chunks.now) number (shown_place place.now) (state_of self.old)) }
     {
         match *place {
-            Place::Open(section) => self.open(section, traits.get(section).alignment),
-            Place::Rows(chunk) => self.place_chunk(chunks.rows(chunk)),
-            Place::Close(section) => self.close(section),
+            Place::SetLocation(expression) => {
+                self.set_location(given.alloc, given.names, number, expression)
+            }
+            Place::Open(section) => self.open(section, given.traits.get(section).alignment),
+            Place::Rows(chunk) => self.place_chunk(given.chunks.rows(chunk)),
+            Place::Close(section) => self.close(given.alloc, given.names, section),
         }
     }
 }
 
-/// Lays out the places: the numbers that are known behind the last one, or the fault of the first that refuses.
-pub fn lay_out(
-    alloc: Global,
-    places: &[Place],
-    traits: &SectionTraits,
-    chunks: &Chunks,
-) -> Result<Table, Fault>
-    ensures laid_out { IfOk result (λ table. (state : State) × Stands (λ s. (traits_at traits.now s).alignment) (rows_at chunks.now) places.now (length places.now) state × (state.known ≡ known_of table)) }
-    ensures refused { IfErr result (λ f. (f ≡ NoMemory) ⊎ Refuses (λ s. (traits_at traits.now s).alignment) (rows_at chunks.now) places.now f) }
+/// What all places are laid out by.
+#[derive(Drop)]
+pub struct Given<'a> {
+    pub alloc: Global,
+    /// The names of the sections, in order.
+    pub names: &'a [&'a Name],
+    pub traits: &'a SectionTraits,
+    pub chunks: &'a Chunks,
+}
+
+/// Lays out the places: what stands behind the last one, or the fault of the first that refuses.
+pub fn lay_out(given: &Given<'_>, places: &[Place<'_>]) -> Result<Walk, Fault>
+    ensures laid_out { IfOk result (λ walk. Stands (setting_of given.now.names.now) (λ s. (traits_at given.now.traits.now s).alignment) (rows_at given.now.chunks.now) (shown places.now) (length (shown places.now)) (state_of walk)) }
+    ensures refused { IfErr result (λ f. (f ≡ NoMemory) ⊎ Refuses (setting_of given.now.names.now) (λ s. (traits_at given.now.traits.now s).alignment) (rows_at given.now.chunks.now) (shown places.now) f) }
 {
-    let mut walk = Walk::new(alloc);
-    for place in places {
-        walk.step(traits, chunks, place)?;
+    let mut walk = Walk::new(given.alloc);
+    for (number, place) in places.iter().enumerate() {
+        walk.step(given, number, place)?;
     }
-    Ok(walk.table)
+    Ok(walk)
 }

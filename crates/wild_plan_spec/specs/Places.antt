@@ -28,11 +28,20 @@ contents_places s number (Matcher m ∷ cs) = Rows (record { «section» = s; nu
 abbrev pub section_places : ℕ → Section → List Place
 section_places s x = Open s ∷ (contents_places s 0 x.commands ++ Close s ∷ [])
 
+-- a statement, whose section, if it is one, has the number s
+abbrev pub statement_places : ℕ → SectionCommand → List Place
+statement_places s (OfSection x) = section_places s x
+statement_places s (OfLocation l) = SetLocation l.address ∷ []
+
+-- the number of the next section behind a statement
+abbrev pub next_section : ℕ → SectionCommand → ℕ
+next_section s (OfSection x) = s + 1
+next_section s (OfLocation l) = s
+
 -- the next section of the list has the number s
 abbrev pub all_places : ℕ → List SectionCommand → List Place
 all_places s [] = []
-all_places s (OfSection x ∷ cs) = section_places s x ++ all_places (s + 1) cs
-all_places s (OfLocation l ∷ cs) = SetLocation l.address ∷ all_places s cs
+all_places s (c ∷ cs) = statement_places s c ++ all_places (next_section s c) cs
 
 -- in text order
 abbrev pub places_of : LinkerScript → List Place
