@@ -2,6 +2,9 @@
 #![tactic(auto)]
 
 mod arithmetic;
+mod marks;
+mod plain;
 mod table;
 
+pub use plain::Reader;
 pub use table::{Numbers, Table};
