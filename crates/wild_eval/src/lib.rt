@@ -3,6 +3,7 @@
 
 mod arithmetic;
 mod marks;
+mod operators;
 mod plain;
 mod table;
 

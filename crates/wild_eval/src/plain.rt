@@ -9,6 +9,7 @@ ghost use Rattle.wild_value_spec.specs.Value as value;
 
 use crate::arithmetic::{apply, change, decides, divide, holds, truth, truth_of};
 use crate::marks::{absolutely, bare, over, over_both, relatively, unmarked, unmarked_over};
+use crate::operators::{arithmetic, comparison, connective, division, unary};
 use crate::table::Table;
 use sqlite_items::Boxed;
 use std::alloc::Global;
@@ -215,151 +216,41 @@ impl Reader<'_> {
         match expression {
             Expression::Number(number) => Ok(unmarked(*number)),
             Expression::LocationCounter => self.counter(point),
-            Expression::Add(a, b) => self.calculated(
-                left,
-                Arithmetic::Add,
-                a.get(),
-                b.get(),
-                point,
-            ),
-            Expression::Subtract(a, b) => self.calculated(
-                left,
-                Arithmetic::Subtract,
-                a.get(),
-                b.get(),
-                point,
-            ),
-            Expression::Multiply(a, b) => self.calculated(
-                left,
-                Arithmetic::Multiply,
-                a.get(),
-                b.get(),
-                point,
-            ),
-            Expression::BitwiseAnd(a, b) => self.calculated(
-                left,
-                Arithmetic::BitwiseAnd,
-                a.get(),
-                b.get(),
-                point,
-            ),
-            Expression::BitwiseOr(a, b) => self.calculated(
-                left,
-                Arithmetic::BitwiseOr,
-                a.get(),
-                b.get(),
-                point,
-            ),
-            Expression::BitwiseXor(a, b) => self.calculated(
-                left,
-                Arithmetic::BitwiseXor,
-                a.get(),
-                b.get(),
-                point,
-            ),
-            Expression::LeftShift(a, b) => self.calculated(
-                left,
-                Arithmetic::LeftShift,
-                a.get(),
-                b.get(),
-                point,
-            ),
-            Expression::RightShift(a, b) => self.calculated(
-                left,
-                Arithmetic::RightShift,
-                a.get(),
-                b.get(),
-                point,
-            ),
-            Expression::Min(a, b) => self.calculated(
-                left,
-                Arithmetic::Min,
-                a.get(),
-                b.get(),
-                point,
-            ),
-            Expression::Max(a, b) => self.calculated(
-                left,
-                Arithmetic::Max,
-                a.get(),
-                b.get(),
-                point,
-            ),
-            Expression::Divide(a, b) => self.divided(
-                left,
-                Division::Divide,
-                a.get(),
-                b.get(),
-                point,
-            ),
-            Expression::Modulo(a, b) => self.divided(
-                left,
-                Division::Modulo,
-                a.get(),
-                b.get(),
-                point,
-            ),
-            Expression::LessEqual(a, b) => self.compared(
-                left,
-                Comparison::LessEqual,
-                a.get(),
-                b.get(),
-                point,
-            ),
-            Expression::GreaterEqual(a, b) => self.compared(
-                left,
-                Comparison::GreaterEqual,
-                a.get(),
-                b.get(),
-                point,
-            ),
-            Expression::Equal(a, b) => self.compared(
-                left,
-                Comparison::Equal,
-                a.get(),
-                b.get(),
-                point,
-            ),
-            Expression::NotEqual(a, b) => self.compared(
-                left,
-                Comparison::NotEqual,
-                a.get(),
-                b.get(),
-                point,
-            ),
-            Expression::LessThan(a, b) => self.compared(
-                left,
-                Comparison::LessThan,
-                a.get(),
-                b.get(),
-                point,
-            ),
-            Expression::GreaterThan(a, b) => self.compared(
-                left,
-                Comparison::GreaterThan,
-                a.get(),
-                b.get(),
-                point,
-            ),
-            Expression::LogicalAnd(a, b) => self.connected(
-                left,
-                Connective::LogicalAnd,
-                a.get(),
-                b.get(),
-                point,
-            ),
-            Expression::LogicalOr(a, b) => self.connected(
-                left,
-                Connective::LogicalOr,
-                a.get(),
-                b.get(),
-                point,
-            ),
-            Expression::LogicalNot(a) => self.turned(left, Unary::LogicalNot, a.get(), point),
-            Expression::BitwiseNot(a) => self.turned(left, Unary::BitwiseNot, a.get(), point),
-            Expression::Negate(a) => self.turned(left, Unary::Negate, a.get(), point),
-            Expression::Ternary(c, a, b) => self.choice(left, c.get(), a.get(), b.get(), point),
-            Expression::Align(n, a) => self.aligned(left, n.get(), a, point),
+            Expression::Add(a, b)
+            | Expression::Subtract(a, b)
+            | Expression::Multiply(a, b)
+            | Expression::BitwiseAnd(a, b)
+            | Expression::BitwiseOr(a, b)
+            | Expression::BitwiseXor(a, b)
+            | Expression::LeftShift(a, b)
+            | Expression::RightShift(a, b)
+            | Expression::Min(a, b)
+            | Expression::Max(a, b) => {
+                self.calculated(left, arithmetic(expression), a.get(), b.get(), point)
+            }
+            Expression::Divide(a, b) | Expression::Modulo(a, b) => {
+                self.divided(left, division(expression), a.get(), b.get(), point)
+            }
+            Expression::LessEqual(a, b)
+            | Expression::GreaterEqual(a, b)
+            | Expression::Equal(a, b)
+            | Expression::NotEqual(a, b)
+            | Expression::LessThan(a, b)
+            | Expression::GreaterThan(a, b) => {
+                self.compared(left, comparison(expression), a.get(), b.get(), point)
+            }
+            Expression::LogicalAnd(a, b) | Expression::LogicalOr(a, b) => {
+                self.connected(left, connective(expression), a.get(), b.get(), point)
+            }
+            Expression::LogicalNot(a) | Expression::BitwiseNot(a) | Expression::Negate(a) => {
+                self.turned(left, unary(expression), a.get(), point)
+            }
+            Expression::Ternary(condition, a, b) => {
+                self.choice(left, condition.get(), a.get(), b.get(), point)
+            }
+            Expression::Align(alignment, held) => {
+                self.aligned(left, alignment.get(), held, point)
+            }
             _ => Err(Fault::Unsupported {
                 index: self.statement,
             }),
