@@ -1,1 +1,4 @@
+pub mod Operators
+pub mod Plain
+pub mod Setting
 pub mod Table

@@ -29,7 +29,9 @@ fn quotient(left: u64, right: u64) -> u64
     requires { 0 < right }
     ensures { result ≡ spec.quotient left right }
 {
-    left.cast_signed().wrapping_div(right.cast_signed()).cast_unsigned()
+    left.cast_signed()
+        .wrapping_div(right.cast_signed())
+        .cast_unsigned()
 }
 
 #[tactic(auto, unfolding(wild_value_spec::specs::Numbers::remainder))]
@@ -37,7 +39,9 @@ fn remainder(left: u64, right: u64) -> u64
     requires { 0 < right }
     ensures { result ≡ spec.remainder left right }
 {
-    left.cast_signed().wrapping_rem(right.cast_signed()).cast_unsigned()
+    left.cast_signed()
+        .wrapping_rem(right.cast_signed())
+        .cast_unsigned()
 }
 
 /// Both sides are read as signed numbers. The quotient is the one toward zero, and wraps.
@@ -74,10 +78,17 @@ pub fn truth(holds: bool) -> u64
 }
 
 /// A number is true where it is not 0.
-pub fn is_true(number: u64) -> bool
+fn is_true(number: u64) -> bool
     ensures { result ≡ spec.is_true number }
 {
     number != 0
+}
+
+/// 1 for a number that is not 0, else 0.
+pub fn truth_of(number: u64) -> u64
+    ensures { result ≡ spec.truth (spec.is_true number) }
+{
+    truth(is_true(number))
 }
 
 /// Whether the left side decides alone.

@@ -32,6 +32,10 @@ pub record Setting : Type 0 where
 
 -- ---- values
 
+-- a number that is no node
+abbrev pub bare : ℕ → Value
+bare n = record { number = n; relative = false; absolute = false; height = 0 }
+
 -- a leaf: with no mark; with the absolute one, as an address; with the relative one, as counted from a section's start
 abbrev pub unmarked : ℕ → Value
 unmarked n = record { number = n; relative = false; absolute = false; height = 1 }
@@ -89,10 +93,6 @@ module _ (setting : Setting) (statement : ℕ) (known : Known) where
   multiple_from x align =
       if nat_lt (rounded_up align x) (2 ^ 64) then Ok (rounded_up align x) else Err (AlignOverflow x align)
 
-  -- a value that is not 0, or else this fault
-  unfoldable pub nonzero : Fault → Value → Result Value Fault
-  nonzero f x = if x.number == 0 then Err f else Ok x
-
   -- ---- full values
 
   -- inside a section, the section's start is added where the number counts from there or is not known to be an address
@@ -104,7 +104,15 @@ module _ (setting : Setting) (statement : ℕ) (known : Known) where
   unfoldable pub based : Point → Value → Result ℕ Fault
   based p x = based_in p.«section» x
 
-  -- ---- the kinds of nodes
+  -- ---- steps
+
+  -- a comparison, of which the left side is known with its full value
+  unfoldable pub judged : Comparison → Point → ℕ → Value → Value → Result Value Fault
+  judged o p left x y = based p y >>= (λ right. Ok (unmarked_over (truth (holds o left right)) x y))
+
+  -- the next multiple of an alignment from a value on
+  unfoldable pub raised : Value → Value → Result Value Fault
+  raised align x = multiple_from x.number align.number >>= (λ n. Ok (over_both n align x))
 
   -- `.`, the location counter, which inside a section counts from the section's start
   abbrev pub counter_in : Option ℕ → ℕ → Result Value Fault
@@ -114,7 +122,11 @@ module _ (setting : Setting) (statement : ℕ) (known : Known) where
   unfoldable pub counter : Point → Result Value Fault
   counter p = dot_of p.place >>= counter_in p.«section»
 
-  -- the nodes over their parts, whose values `part` gives
+  -- the number of the location counter alone
+  unfoldable pub counter_number : Point → Result Value Fault
+  counter_number p = counter p >>= (λ x. Ok (bare x.number))
+
+  -- ---- the kinds of nodes, over their parts, whose values `part` gives
   module _ (part : Expression → Point → Result Value Fault) where
     -- both sides, the left one first
     unfoldable pub calculated : Arithmetic → Expression → Expression → Point → Result Value Fault
@@ -124,15 +136,14 @@ module _ (setting : Setting) (statement : ℕ) (known : Known) where
     -- the divisor first, which must not be 0
     unfoldable pub divided : Division → Expression → Expression → Point → Result Value Fault
     divided o a b p =
-        part b p >>= nonzero (zero_divisor o statement) >>= (λ y.
-        part a p >>= (λ x. Ok (over_both (divided_by o x.number y.number) x y)))
+        part b p >>= (λ y.
+        if y.number == 0 then Err (zero_divisor o statement) else
+        (part a p >>= (λ x. Ok (over_both (divided_by o x.number y.number) x y))))
 
     -- the full values of both sides, the left one first; they keep their marks
     unfoldable pub compared : Comparison → Expression → Expression → Point → Result Value Fault
     compared o a b p =
-        part a p >>= (λ x. based p x >>= (λ left.
-        part b p >>= (λ y. based p y >>= (λ right.
-        Ok (unmarked_over (truth (holds o left right)) x y)))))
+        part a p >>= (λ x. based p x >>= (λ left. part b p >>= (λ y. judged o p left x y)))
 
     -- the truth of the left side where that decides, else that of the right one
     unfoldable pub connected : Connective → Expression → Expression → Point → Result Value Fault
@@ -148,17 +159,16 @@ module _ (setting : Setting) (statement : ℕ) (known : Known) where
     unfoldable pub choice : Expression → Expression → Expression → Point → Result Value Fault
     choice c a b p = part c p >>= (λ x. part (chosen x.number a b) p >>= (λ y. Ok (over_both y.number x y)))
 
-    -- what is aligned: an expression, or else the location counter without its mark
+    -- what is aligned: an expression, or else the location counter
     abbrev pub subject : Option Expression → Point → Result Value Fault
     subject (Some a) p = part a p
-    subject None p = counter p >>= (λ y. Ok (unmarked y.number))
+    subject None p = counter_number p
 
     -- the alignment first, which must not be 0; then the next multiple of it from what is aligned on
     unfoldable pub aligned : Expression → Option Expression → Point → Result Value Fault
     aligned n a p =
-        part n p >>= nonzero (AlignZero statement) >>= (λ x.
-        subject a p >>= (λ y.
-        multiple_from y.number x.number >>= (λ m. Ok (over_both m x y))))
+        part n p >>= (λ align.
+        if align.number == 0 then Err (AlignZero statement) else (subject a p >>= (λ x. raised align x)))
 
     abbrev pub node : Point → Layer → Result Value Fault
     node p (Expression-F.Number n) = Ok (unmarked n)
