@@ -1,6 +1,7 @@
 -- What the parts of a plan answer makes what the whole answers.
 use Rattle.std.proofs.Common.{◌≡◌, ◌∙◌, ℕ, List, [], length, None, refl, sym, ap, subst, inl, inr, ⊎_elim}
 use Rattle.std.proofs.Math.Path.{fun_ext}
+use denote.Ref.{Bor}
 use Rattle.std.specs.List.{filter}
 use Rattle.wild_base.specs.declared.fault.Fault.{Fault}
 use Rattle.wild_base.specs.declared.fault.Fault.TheVariants.{Syntax, UnclosedComment, UnsupportedNestedSort, TooDeep}
@@ -9,16 +10,19 @@ use Rattle.wild_script.specs.declared.tree.LinkerScript.{LinkerScript}
 use Rattle.wild_script.specs.declared.tree.Section.{Section}
 use Rattle.wild_plan_spec.specs.declared.chunk.Chunk.{Chunk}
 use Rattle.wild_plan_spec.specs.declared.chunk.ChunkRow.{ChunkRow}
-use Rattle.wild_plan_spec.specs.declared.chunk.Place.{Place}
 use Rattle.wild_plan_spec.specs.declared.row.InputRow.{InputRow}
 use Rattle.wild_plan_spec.specs.Rules.{Rule, sections_of, rules_of}
 use Rattle.wild_plan_spec.specs.Chunks.{is_of, largest_alignment}
-use Rattle.wild_plan_spec.specs.Checks.{row_checks, name_checks, support_checks, checks, failing}
+use Rattle.wild_plan_spec.specs.Checks.{row_checks, place_checks, name_checks, support_checks, checks, failing}
 use Rattle.wild_plan_spec.specs.Order.{IsOrdered, stands_before}
-use Rattle.wild_plan_spec.specs.Places.{all_places, places_of}
+use Rattle.wild_plan_spec.specs.Names.{Name}
+use Rattle.wild_plan_spec.specs.Settings.{names_of, setting_of}
+use Rattle.wild_plan_spec.specs.Places.{Place, places_of}
 use Rattle.wild_plan_spec.specs.Walk.{Stands, Refuses}
 use Rattle.wild_plan_spec.specs.Line.{State}
-use Rattle.wild_plan_spec.specs.Known.{Known}
+use Rattle.wild_value_spec.specs.Known.{Known}
+use Rattle.wild_value_spec.specs.Value.{Setting}
+use Rattle.wild_eval.specs.Setting as named
 use Rattle.wild_plan_spec.specs.Layout.{Layout, placed_sections, row_names}
 use Rattle.wild_plan_spec.specs.Fit.{AreOrdered, section_alignment, Fits, FaultIn, IsPlan, IsLaterFault, IsThePlan, IsTheFault}
 use Rattle.wild_plan_spec.proofs.Unique.{plans_once, plan_or_fault, faults_once}
@@ -29,9 +33,11 @@ use Rattle.wild_plan.specs.Composed.{IsChecked, AreOrderedWith, alignment_with, 
 use Rattle.wild_plan.specs.Listed.{sections_by}
 use Rattle.wild_plan.specs.Passes.{IsWanted}
 use Rattle.wild_plan.specs.Pointed.{pointed}
+use Rattle.wild_plan.specs.Shown.{shown}
 use Rattle.wild_plan.specs.Traits.{traits_of}
 use Rattle.wild_plan.specs.With.{section_rows_with, placed_with}
-use Rattle.wild_plan.proofs.Failing.{checks_hold, row_fails, name_fails, support_fails}
+use Rattle.wild_plan.proofs.Failing.{checks_hold, row_fails, place_fails, name_fails, support_fails}
+use Rattle.wild_plan.proofs.Settings.{settings_same}
 use Rattle.wild_plan.proofs.Listed.{sections_same}
 use Rattle.wild_plan.proofs.WithRules.{section_rows_by_rules, kept_by_rules, placed_by_rules}
 
@@ -42,18 +48,21 @@ module _ (t : LinkerScript) (rows : List InputRow) where
   rows_refused f (inl h) = inl h
   rows_refused f (inr h) = inr (row_fails t rows f h)
 
-  pub names_refused : (xs : List Section) (f : Fault) → xs ≡ sections_of t → failing (row_checks 0 rows) ≡ None → IsWanted (failing (name_checks [] xs)) f → IsWanted (failing (checks t rows)) f
-  names_refused xs f e a (inl h) = inl h
-  names_refused xs f e a (inr h) = inr (name_fails t rows f a (rw e at h))
+  pub places_refused : (ps : List Place) (f : Fault) → ps ≡ places_of t → failing (row_checks 0 rows) ≡ None → IsWanted (failing (place_checks 0 ps)) f → IsWanted (failing (checks t rows)) f
+  places_refused ps f e a (inl h) = inl h
+  places_refused ps f e a (inr h) = inr (place_fails t rows f a (rw e at h))
 
-  pub support_refused : (xs : List Section) (rules : List Rule) (f : Fault) → xs ≡ sections_of t → rules ≡ rules_of t → failing (row_checks 0 rows) ≡ None → failing (name_checks [] xs) ≡ None
-      → IsWanted (failing (support_checks rules 0 rows)) f → IsWanted (failing (checks t rows)) f
-  support_refused xs rules f e g a b (inl h) = inl h
-  support_refused xs rules f e g a b (inr h) = inr (support_fails t rows f a (rw e at b) (rw g at h))
+  module _ (ps : List Place) (xs : List Section) (in_places : ps ≡ places_of t) (in_sections : xs ≡ sections_of t) (a : failing (row_checks 0 rows) ≡ None) (b : failing (place_checks 0 ps) ≡ None) where
+    pub names_refused : (f : Fault) → IsWanted (failing (name_checks [] xs)) f → IsWanted (failing (checks t rows)) f
+    names_refused f (inl h) = inl h
+    names_refused f (inr h) = inr (name_fails t rows f a (rw in_places at b) (rw in_sections at h))
 
-  pub all_hold : (xs : List Section) (rules : List Rule) → xs ≡ sections_of t → rules ≡ rules_of t → failing (row_checks 0 rows) ≡ None → failing (name_checks [] xs) ≡ None
-      → failing (support_checks rules 0 rows) ≡ None → failing (checks t rows) ≡ None
-  all_hold xs rules e g a b c = checks_hold t rows a (rw e at b) (rw g at c)
+    pub support_refused : (rules : List Rule) (f : Fault) → rules ≡ rules_of t → failing (name_checks [] xs) ≡ None → IsWanted (failing (support_checks rules 0 rows)) f → IsWanted (failing (checks t rows)) f
+    support_refused rules f g c (inl h) = inl h
+    support_refused rules f g c (inr h) = inr (support_fails t rows f a (rw in_places at b) (rw in_sections at c) (rw g at h))
+
+    pub all_hold : (rules : List Rule) → rules ≡ rules_of t → failing (name_checks [] xs) ≡ None → failing (support_checks rules 0 rows) ≡ None → failing (checks t rows) ≡ None
+    all_hold rules g c d = checks_hold t rows a (rw in_places at b) (rw in_sections at c) (rw g at d)
 
 -- ---- layout
 
@@ -61,27 +70,28 @@ module _ (t : LinkerScript) (rows : List InputRow) where
 pub alignments : (traits : ℕ → Traits) (rows : List InputRow) (chunks : List Chunk) → ((s : ℕ) → traits s ≡ traits_of (section_rows_with s rows chunks)) → (λ (s : ℕ). (traits s).alignment) ≡ alignment_with rows chunks
 alignments traits rows chunks h = fun_ext (λ s. ap (λ (x : Traits). x.alignment) (h s))
 
-module _ (sections : List Section) (rows : List InputRow) (chunks : List Chunk) (traits : ℕ → Traits) (order : Chunk → List ChunkRow) (places : List Place)
-    (by : (s : ℕ) → traits s ≡ traits_with rows chunks s) (ordered : AreOrderedWith rows chunks order) (in_order : places ≡ all_places 0 sections) where
-  pub laid_out : (lists : Lists) (known : Known) (state : State) → Stands (λ s. (traits s).alignment) order places (length places) state → state.known ≡ known
-      → lists.sections ≡ sections_by known traits 0 sections → lists.placements ≡ placed_with known 0 chunks → lists.names ≡ row_names rows → IsLaidOut sections rows chunks lists
-  laid_out lists known state stands same a b n = record {
+module _ (sections : List Section) (names : List (Bor Name)) (places : List Place) (rows : List InputRow) (chunks : List Chunk) (traits : ℕ → Traits) (order : Chunk → List ChunkRow)
+    (of_names : pointed names ≡ names_of sections) (by : (s : ℕ) → traits s ≡ traits_with rows chunks s) (ordered : AreOrderedWith rows chunks order) where
+  pub laid_out : (lists : Lists) (known : Known) (state : State) → Stands (named.setting_of names) (λ s. (traits s).alignment) order places (length places) state → state.known ≡ known
+      → lists.sections ≡ sections_by known traits 0 sections → lists.placements ≡ placed_with known 0 chunks → lists.locations ≡ state.locations → lists.names ≡ row_names rows → IsLaidOut sections places rows chunks lists
+  laid_out lists known state stands same a b l n = record {
     order = order;
     ordered = ordered;
     state = state;
-    stands = subst (λ (f : ℕ → ℕ). Stands f order (all_places 0 sections) (length (all_places 0 sections)) state) (alignments traits rows chunks by)
-        (subst (λ ps. Stands (λ s. (traits s).alignment) order ps (length ps) state) in_order stands);
+    stands = subst (λ (f : ℕ → ℕ). Stands (setting_of sections) f order places (length places) state) (alignments traits rows chunks by)
+        (subst (λ (s : Setting). Stands s (λ s. (traits s).alignment) order places (length places) state) (settings_same names sections of_names) stands);
     section_list = a ∙ ap (λ (f : ℕ → Traits). sections_by known f 0 sections) (fun_ext by) ∙ ap (λ (k : Known). sections_by k (traits_with rows chunks) 0 sections) (sym same);
     placement_list = b ∙ ap (λ (k : Known). placed_with k 0 chunks) (sym same);
+    location_list = l;
     name_list = n;
   }
 
-  pub refused : (fault : Fault) → Refuses (λ s. (traits s).alignment) order places fault → IsRefused sections rows chunks fault
+  pub refused : (fault : Fault) → Refuses (named.setting_of names) (λ s. (traits s).alignment) order places fault → IsRefused sections places rows chunks fault
   refused fault h = record {
     order = order;
     ordered = ordered;
-    refuses = subst (λ (f : ℕ → ℕ). Refuses f order (all_places 0 sections) fault) (alignments traits rows chunks by)
-        (subst (λ ps. Refuses (λ s. (traits s).alignment) order ps fault) in_order h);
+    refuses = subst (λ (f : ℕ → ℕ). Refuses (setting_of sections) f order places fault) (alignments traits rows chunks by)
+        (subst (λ (s : Setting). Refuses s (λ s. (traits s).alignment) order places fault) (settings_same names sections of_names) h);
   }
 
 module _ (t : LinkerScript) (rows : List InputRow) (checked : Checked) (c : IsChecked t rows checked) where
@@ -91,33 +101,32 @@ module _ (t : LinkerScript) (rows : List InputRow) (checked : Checked) (c : IsCh
   ordered_rows : (order : Chunk → List ChunkRow) → AreOrderedWith rows checked.chunks order → AreOrdered t rows order
   ordered_rows order h = λ q. subst (λ (ks : List ChunkRow). IsOrdered stands_before (filter (is_of q) ks) (order q)) (kept_by_rules (rules_of t) 0 rows checked.chunks c.chunks) (h q)
 
-  same_places : all_places 0 (pointed checked.sections) ≡ places_of t
-  same_places = ap (all_places 0) c.sections
-
-  listed_sections : (lists : Lists) (h : IsLaidOut (pointed checked.sections) rows checked.chunks lists) → lists.sections ≡ placed_sections h.state.known (rules_of t) rows 0 (sections_of t)
+  listed_sections : (lists : Lists) (h : IsLaidOut (pointed checked.sections) (shown checked.places) rows checked.chunks lists) → lists.sections ≡ placed_sections h.state.known (rules_of t) rows 0 (sections_of t)
   listed_sections lists h =
       h.section_list
       ∙ sections_same h.state.known (rules_of t) rows (traits_with rows checked.chunks) (λ s. ap traits_of (section_rows_by_rules (rules_of t) s rows checked.chunks c.chunks)) 0 (pointed checked.sections)
       ∙ ap (placed_sections h.state.known (rules_of t) rows 0) c.sections
 
-  pub lists_fit : (lists : Lists) → IsLaidOut (pointed checked.sections) rows checked.chunks lists → Fits t rows (record { script = t; sections = lists.sections; placements = lists.placements; names = lists.names })
+  pub lists_fit : (lists : Lists) → IsLaidOut (pointed checked.sections) (shown checked.places) rows checked.chunks lists → Fits t rows (record { script = t; sections = lists.sections; placements = lists.placements; locations = lists.locations; names = lists.names })
   lists_fit lists h = record {
     sound = c.sound;
     order = h.order;
     ordered = ordered_rows h.order h.ordered;
     state = h.state;
-    stands = subst (λ (a : ℕ → ℕ). Stands a h.order (places_of t) (length (places_of t)) h.state) same_alignment
-        (subst (λ ps. Stands (alignment_with rows checked.chunks) h.order ps (length ps) h.state) same_places h.stands);
-    listed = rw (listed_sections lists h, h.placement_list, placed_by_rules (rules_of t) h.state.known 0 rows checked.chunks c.chunks, h.name_list) refl;
+    stands = subst (λ (xs : List Section). Stands (setting_of xs) (section_alignment t rows) h.order (places_of t) (length (places_of t)) h.state) c.sections
+        (subst (λ (a : ℕ → ℕ). Stands (setting_of (pointed checked.sections)) a h.order (places_of t) (length (places_of t)) h.state) same_alignment
+        (subst (λ ps. Stands (setting_of (pointed checked.sections)) (alignment_with rows checked.chunks) h.order ps (length ps) h.state) c.places h.stands));
+    listed = rw (listed_sections lists h, h.placement_list, placed_by_rules (rules_of t) h.state.known 0 rows checked.chunks c.chunks, h.location_list, h.name_list) refl;
   }
 
-  pub lists_refused : (fault : Fault) → IsRefused (pointed checked.sections) rows checked.chunks fault → FaultIn t rows fault
+  pub lists_refused : (fault : Fault) → IsRefused (pointed checked.sections) (shown checked.places) rows checked.chunks fault → FaultIn t rows fault
   lists_refused fault h = inr (record {
     sound = c.sound;
     order = h.order;
     ordered = ordered_rows h.order h.ordered;
-    refuses = subst (λ (a : ℕ → ℕ). Refuses a h.order (places_of t) fault) same_alignment
-        (subst (λ ps. Refuses (alignment_with rows checked.chunks) h.order ps fault) same_places h.refuses);
+    refuses = subst (λ (xs : List Section). Refuses (setting_of xs) (section_alignment t rows) h.order (places_of t) fault) c.sections
+        (subst (λ (a : ℕ → ℕ). Refuses (setting_of (pointed checked.sections)) a h.order (places_of t) fault) same_alignment
+        (subst (λ ps. Refuses (setting_of (pointed checked.sections)) (alignment_with rows checked.chunks) h.order ps fault) c.places h.refuses));
   })
 
 -- ---- scripts

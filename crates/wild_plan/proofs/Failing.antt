@@ -5,7 +5,8 @@ use Rattle.wild_base.specs.declared.fault.Fault.{Fault}
 use Rattle.wild_script.specs.declared.tree.LinkerScript.{LinkerScript}
 use Rattle.wild_plan_spec.specs.declared.row.InputRow.{InputRow}
 use Rattle.wild_plan_spec.specs.Rules.{sections_of, rules_of}
-use Rattle.wild_plan_spec.specs.Checks.{Check, row_checks, name_checks, support_checks, checks, failing}
+use Rattle.wild_plan_spec.specs.Places.{places_of}
+use Rattle.wild_plan_spec.specs.Checks.{Check, row_checks, place_checks, name_checks, support_checks, checks, failing}
 
 failing_by : (b : Bool) (c : Check) (first both next : Option Check) → option_map (λ c. c.fault) both ≡ option_or (option_map (λ c. c.fault) first) (option_map (λ c. c.fault) next)
     → option_map (λ c. c.fault) (cond b (Some c) both) ≡ option_or (option_map (λ c. c.fault) (cond b (Some c) first)) (option_map (λ c. c.fault) next)
@@ -25,11 +26,14 @@ failing_behind xs ys none = failing_append xs ys ∙ rw none refl
 pub failing_before : (xs ys : List Check) (fault : Fault) → failing xs ≡ Some fault → failing (xs ++ ys) ≡ Some fault
 failing_before xs ys fault some = failing_append xs ys ∙ rw some refl
 
--- ---- the checks of a script and its rows, by their three parts
+-- ---- the checks of a script and its rows, by their four parts
 
 module _ (t : LinkerScript) (rows : List InputRow) where
   abbrev pub of_rows : List Check
   of_rows = row_checks 0 rows
+
+  abbrev pub of_places : List Check
+  of_places = place_checks 0 (places_of t)
 
   abbrev pub of_names : List Check
   of_names = name_checks [] (sections_of t)
@@ -37,14 +41,24 @@ module _ (t : LinkerScript) (rows : List InputRow) where
   abbrev pub of_support : List Check
   of_support = support_checks (rules_of t) 0 rows
 
-  pub checks_hold : failing of_rows ≡ None → failing of_names ≡ None → failing of_support ≡ None → failing (checks t rows) ≡ None
-  checks_hold a b c = failing_behind (of_rows ++ of_names) of_support (failing_behind of_rows of_names a ∙ b) ∙ c
+  -- the checks before those of the names hold
+  places_hold : failing of_rows ≡ None → failing of_places ≡ None → failing (of_rows ++ of_places) ≡ None
+  places_hold a b = failing_behind of_rows of_places a ∙ b
+
+  names_hold : failing of_rows ≡ None → failing of_places ≡ None → failing of_names ≡ None → failing (of_rows ++ of_places ++ of_names) ≡ None
+  names_hold a b c = failing_behind (of_rows ++ of_places) of_names (places_hold a b) ∙ c
+
+  pub checks_hold : failing of_rows ≡ None → failing of_places ≡ None → failing of_names ≡ None → failing of_support ≡ None → failing (checks t rows) ≡ None
+  checks_hold a b c d = failing_behind (of_rows ++ of_places ++ of_names) of_support (names_hold a b c) ∙ d
 
   pub row_fails : (fault : Fault) → failing of_rows ≡ Some fault → failing (checks t rows) ≡ Some fault
-  row_fails fault a = failing_before (of_rows ++ of_names) of_support fault (failing_before of_rows of_names fault a)
+  row_fails fault a = failing_before (of_rows ++ of_places ++ of_names) of_support fault (failing_before (of_rows ++ of_places) of_names fault (failing_before of_rows of_places fault a))
 
-  pub name_fails : (fault : Fault) → failing of_rows ≡ None → failing of_names ≡ Some fault → failing (checks t rows) ≡ Some fault
-  name_fails fault a b = failing_before (of_rows ++ of_names) of_support fault (failing_behind of_rows of_names a ∙ b)
+  pub place_fails : (fault : Fault) → failing of_rows ≡ None → failing of_places ≡ Some fault → failing (checks t rows) ≡ Some fault
+  place_fails fault a b = failing_before (of_rows ++ of_places ++ of_names) of_support fault (failing_before (of_rows ++ of_places) of_names fault (failing_behind of_rows of_places a ∙ b))
 
-  pub support_fails : (fault : Fault) → failing of_rows ≡ None → failing of_names ≡ None → failing of_support ≡ Some fault → failing (checks t rows) ≡ Some fault
-  support_fails fault a b c = failing_behind (of_rows ++ of_names) of_support (failing_behind of_rows of_names a ∙ b) ∙ c
+  pub name_fails : (fault : Fault) → failing of_rows ≡ None → failing of_places ≡ None → failing of_names ≡ Some fault → failing (checks t rows) ≡ Some fault
+  name_fails fault a b c = failing_before (of_rows ++ of_places ++ of_names) of_support fault (failing_behind (of_rows ++ of_places) of_names (places_hold a b) ∙ c)
+
+  pub support_fails : (fault : Fault) → failing of_rows ≡ None → failing of_places ≡ None → failing of_names ≡ None → failing of_support ≡ Some fault → failing (checks t rows) ≡ Some fault
+  support_fails fault a b c d = failing_behind (of_rows ++ of_places ++ of_names) of_support (names_hold a b c) ∙ d

@@ -2,7 +2,7 @@
 use Rattle.std.proofs.Common.{◌≡◌, ℕ, ◌+◌, List, [], ◌∷◌, refl}
 use Rattle.wild_script.specs.declared.tree.Section.{Section}
 use Rattle.wild_plan_spec.specs.declared.row.InputRow.{InputRow}
-use Rattle.wild_plan_spec.specs.Known.{Known}
+use Rattle.wild_value_spec.specs.Known.{Known}
 use Rattle.wild_plan_spec.specs.Rules.{Rule}
 use Rattle.wild_plan_spec.specs.Chunks.{section_rows}
 use Rattle.wild_plan_spec.specs.Layout.{placed_sections}

@@ -1,6 +1,7 @@
 -- Lists of places as they are kept.
 use Rattle.std.proofs.Common.{◌≡◌, ℕ, zero, suc, ◌++◌, List, [], ◌∷◌, length, Some, refl, ap}
-use Rattle.std.specs.Prelude.{slice_get}
+use Rattle.std.specs.Prelude.{slice_get, Option}
+use Rattle.std.specs.Option.{option_map}
 use Rattle.wild_plan.specs.declared.places.Place.{Place}
 use Rattle.wild_plan.specs.Shown.{shown_place, shown}
 
@@ -11,3 +12,9 @@ shown_append (x ∷ xs) ys = ap (λ zs. shown_place x ∷ zs) (shown_append xs y
 pub shown_length : (xs : List Place) → length (shown xs) ≡ length xs
 shown_length [] = refl
 shown_length (x ∷ xs) = ap suc (shown_length xs)
+
+-- the place at an index
+pub shown_at : (ps : List Place) (i : ℕ) (p : Place) → slice_get ps i ≡ Some p → slice_get (shown ps) i ≡ Some (shown_place p)
+shown_at [] i p h = cc h
+shown_at (q ∷ ps) zero p h = ap (λ (o : Option Place). option_map shown_place o) h
+shown_at (q ∷ ps) (suc i) p h = shown_at ps i p h

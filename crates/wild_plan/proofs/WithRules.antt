@@ -5,7 +5,7 @@ use Rattle.wild_plan_spec.specs.declared.chunk.Chunk.{Chunk}
 use Rattle.wild_plan_spec.specs.declared.row.InputRow.{InputRow}
 use Rattle.wild_plan_spec.specs.Rules.{Rule, chunk_of}
 use Rattle.wild_plan_spec.specs.Chunks.{kept_rows, section_rows}
-use Rattle.wild_plan_spec.specs.Known.{Known}
+use Rattle.wild_value_spec.specs.Known.{Known}
 use Rattle.wild_plan_spec.specs.Layout.{placed_inputs}
 use Rattle.wild_plan.specs.With.{AreChunks, kept_with, section_rows_with, placed_with}
 

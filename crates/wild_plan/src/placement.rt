@@ -23,9 +23,13 @@ pub struct Plan {
 }
 
 impl Model for Plan {
+    ghost use Rattle.std.specs.Coded.{codes};
+    ghost use Rattle.wild_expression_tree.specs.contracts.tree.Expression as e;
     ghost use Rattle.wild_plan_spec.specs.Layout.{Layout};
 
     ghost Value = { Layout };
+
+    ghost coded = { Prim.hlevel (codes, e.the_row.coded) };
 
     ghost view = { λ p. record { script = p.script; sections = p.sections; placements = p.placements; locations = p.locations; names = p.names } };
 }

@@ -27,7 +27,7 @@ pub enum Place<'a> {
 
 #[tactic(auto, using(crate::proofs::Shown::shown_append))]
 fn push_place<'a>(places: &mut Items<Place<'a>>, place: Place<'a>) -> Result<(), NoMemory>
-    ensures { OnOk result (shown places.new ≡ shown places.old ++ shown_place place ∷ []) }
+    ensures { OnOk result (shown places.new ≡ shown places.old ++ shown_place place.entry ∷ []) }
 {
     places.push(place)?;
     Ok(())

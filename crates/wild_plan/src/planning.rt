@@ -1,7 +1,7 @@
 //! From the bytes of a script and a table to a plan.
 
 ghost use Rattle.std.specs.Prelude.{◌≡◌, ◌⊎◌, ◌++◌, [], ◌∷◌, OnOk, IfOk, IfErr, length};
-ghost use Rattle.wild_base.specs.declared.fault.Fault.TheVariants.{NoMemory};
+ghost use Rattle.wild_base.specs.declared.fault.Fault.TheVariants as fault;
 ghost use Rattle.wild_plan_spec.specs.Checks.{checks, failing};
 ghost use Rattle.wild_plan_spec.specs.Fit.{IsThePlan, IsTheFault, Fits, FaultIn};
 ghost use Rattle.wild_plan.specs.Composed.{IsChecked, IsLaidOut, IsRefused};
@@ -96,7 +96,7 @@ fn list_rows(
 ) -> Result<Lists, Fault>
     requires { length checked.now.chunks ≡ length rows.now }
     ensures laid_out { IfOk result (IsLaidOut (pointed checked.now.sections) (shown checked.now.places) rows.now checked.now.chunks) }
-    ensures refused { IfErr result (λ f. (f ≡ NoMemory) ⊎ IsRefused (pointed checked.now.sections) (shown checked.now.places) rows.now checked.now.chunks f) }
+    ensures refused { IfErr result (λ f. (f ≡ fault.NoMemory) ⊎ IsRefused (pointed checked.now.sections) (shown checked.now.places) rows.now checked.now.chunks f) }
 {
     let sections = checked.sections.as_slice();
     let chunks = checked.chunks.as_slice();
@@ -121,7 +121,7 @@ fn list_rows(
 /// The lists of the plan of a script and its rows.
 fn script_lists(alloc: Global, script: &LinkerScript, rows: &[InputRow]) -> Result<Lists, Fault>
     ensures fits { IfOk result (λ l. Fits script.now rows.now (record { script = script.now; sections = l.sections; placements = l.placements; locations = l.locations; names = l.names })) }
-    ensures refused { IfErr result (λ f. (f ≡ NoMemory) ⊎ FaultIn script.now rows.now f) }
+    ensures refused { IfErr result (λ f. (f ≡ fault.NoMemory) ⊎ FaultIn script.now rows.now f) }
 {
     let checked = check(alloc, script, rows)?;
     list_rows(alloc, &checked, rows)
@@ -132,7 +132,7 @@ pub fn plan(alloc: Global, script: &[u8], inputs: &InputTable) -> Result<Plan, F
     // The plan is the one that fits, and there is no fault.
     ensures fits { IfOk result (IsThePlan script.now inputs.now.rows) }
     // The fault is the first one, and no plan fits.
-    ensures refused { IfErr result (λ f. (f ≡ NoMemory) ⊎ IsTheFault script.now inputs.now.rows f) }
+    ensures refused { IfErr result (λ f. (f ≡ fault.NoMemory) ⊎ IsTheFault script.now inputs.now.rows f) }
 {
     let tree = LinkerScript::parse(alloc, script)?;
     let Lists {

@@ -1,7 +1,7 @@
 //! The walk over the places of a script, which finds each address.
 
 ghost use Rattle.std.specs.Prelude.{◌≡◌, ◌⊎◌, ℕ, length, IfOk, IfErr};
-ghost use Rattle.wild_base.specs.declared.fault.Fault.TheVariants.{NoMemory, Overlap};
+ghost use Rattle.wild_base.specs.declared.fault.Fault.TheVariants as fault;
 ghost use Rattle.wild_value_spec.specs.Answer.{Returns};
 ghost use Rattle.wild_eval.specs.Setting.{setting_of};
 ghost use Rattle.wild_plan_spec.specs.Chunks.{largest};
@@ -87,7 +87,7 @@ fn overlap(
     first: usize,
     second: usize,
 ) -> Result<Fault, NoMemory>
-    ensures { IfOk result (λ fault. fault ≡ Overlap ((setting_of names.now).section_name first) ((setting_of names.now).section_name second)) }
+    ensures { IfOk result (λ f. f ≡ fault.Overlap ((setting_of names.now).section_name first) ((setting_of names.now).section_name second)) }
 {
     Ok(Fault::Overlap {
         first: section_name(alloc, names, first)?,
@@ -226,7 +226,7 @@ pub struct Given<'a> {
 /// Lays out the places: what stands behind the last one, or the fault of the first that refuses.
 pub fn lay_out(given: &Given<'_>, places: &[Place<'_>]) -> Result<Walk, Fault>
     ensures laid_out { IfOk result (λ walk. Stands (setting_of given.now.names.now) (λ s. (traits_at given.now.traits.now s).alignment) (rows_at given.now.chunks.now) (shown places.now) (length (shown places.now)) (state_of walk)) }
-    ensures refused { IfErr result (λ f. (f ≡ NoMemory) ⊎ Refuses (setting_of given.now.names.now) (λ s. (traits_at given.now.traits.now s).alignment) (rows_at given.now.chunks.now) (shown places.now) f) }
+    ensures refused { IfErr result (λ f. (f ≡ fault.NoMemory) ⊎ Refuses (setting_of given.now.names.now) (λ s. (traits_at given.now.traits.now s).alignment) (rows_at given.now.chunks.now) (shown places.now) f) }
 {
     let mut walk = Walk::new(given.alloc);
     for (number, place) in places.iter().enumerate() {

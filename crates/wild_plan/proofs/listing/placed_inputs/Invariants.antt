@@ -1,5 +1,5 @@
 use Rattle.std.proofs.Common.{◌≡◌, ◌++◌, drop}
-use Rattle.wild_plan.specs.Table.{known_of}
+use Rattle.wild_eval.specs.Table.{known_of}
 use Rattle.wild_plan.specs.With.{placed_with}
 use Rattle.wild_plan.proofs.listing.placed_inputs.Given as goal
 

@@ -5,8 +5,8 @@ use Rattle.wild_plan.proofs.planning.script_lists.Goals as goal
 
 pub returns-clause-fits : goal.returns-clause-fits
 returns-clause-fits c =
-    IfOk-weaker _ _ _ (λ lists h. lists_fit c.args.script.now c.args.rows.now c.in_ok-checked.checked c.in_ok-checked.ensures.sound lists (rw (c.as_slice.ensures, c.as_slice-2.ensures) at h)) c.list_rows.ensures.laid_out
+    IfOk-weaker _ _ _ (λ lists h. lists_fit c.args.script.now c.args.rows.now c.in_ok-checked.checked c.in_ok-checked.ensures.sound lists h) c.list_rows.ensures.laid_out
 
 pub returns-clause-refused : goal.returns-clause-refused
 returns-clause-refused c =
-    IfErr-weaker _ _ _ (λ f h. ⊎_elim (λ e. inl e) (λ r. inr (lists_refused c.args.script.now c.args.rows.now c.in_ok-checked.checked c.in_ok-checked.ensures.sound f (rw (c.as_slice.ensures, c.as_slice-2.ensures) at r))) h) c.list_rows.ensures.refused
+    IfErr-weaker _ _ _ (λ f h. ⊎_elim (λ e. inl e) (λ r. inr (lists_refused c.args.script.now c.args.rows.now c.in_ok-checked.checked c.in_ok-checked.ensures.sound f r)) h) c.list_rows.ensures.refused
