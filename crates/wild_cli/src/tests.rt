@@ -271,15 +271,102 @@ fn plans(rt: HostRuntime) -> Result<(), Fail> {
         (b"SECTIONS", b"", 1, b"", b"fault 1 Syntax position=8\n"),
     ];
     for (script, table, status, text, line) in cases {
-        let words = names(alloc, &[b"plan", b"s", b"t"])?;
-        let files = two_files(alloc, Name::new(alloc, script)?, table)?;
-        let mut files = Shelf::new(files, Vec::new(alloc));
-        let mut out = tray(alloc, None)?;
-        let mut err = tray(alloc, None)?;
-        let answer = run(alloc, words.as_slice(), &mut files, &mut out, &mut err);
+        let (answer, out, err) = planned(alloc, script, table)?;
         assert_eq!(rt; answer, status);
         assert_eq!(rt; out.bytes(), text);
         assert_eq!(rt; err.bytes(), line);
+    }
+    Ok(())
+}
+
+// The status of a run over a script and a table, and what it wrote.
+fn planned(alloc: Global, script: &[u8], table: &[u8]) -> Result<(u8, Tray, Tray), NoMemory> {
+    let words = names(alloc, &[b"plan", b"s", b"t"])?;
+    let files = two_files(alloc, Name::new(alloc, script)?, table)?;
+    let mut files = Shelf::new(files, Vec::new(alloc));
+    let mut out = tray(alloc, None)?;
+    let mut err = tray(alloc, None)?;
+    let answer = run(alloc, words.as_slice(), &mut files, &mut out, &mut err);
+    Ok((answer, out, err))
+}
+
+const COUNTED: &[u8] = b"section .a 0x0000000000000010 0x0000000000000010 0x0000000000000004 4 A - - -
+section .b 0x0000000000000008 0x0000000000000008 0x0000000000000002 1 A - - -
+section .c 0x0000000000000020 0x0000000000000020 0x0000000000000000 1 A - - -
+input 0 0x0000000000000010 .a f.o .a
+input 1 0x0000000000000008 .b f.o .b
+location 0 0x0000000000000010
+location 4 0x0000000000000008
+location 8 0x0000000000000020
+";
+
+const LAST: &[u8] = b"section .a 0xfffffffffffffffe 0xfffffffffffffffe 0x0000000000000001 1 A - - -
+input 0 0xfffffffffffffffe .a f.o .a
+location 0 0xfffffffffffffffe
+";
+
+#[test]
+fn counters(rt: HostRuntime) -> Result<(), Fail> {
+    let alloc = rt.alloc();
+    let cases: [(&[u8], &[u8], u8, &[u8]); 3] = [
+        (
+            b"SECTIONS { . = 0x10; .a : { *(.a) } . -= 12; .b : { *(.b) } . = ALIGN(16) * 2; .c : { } }",
+            b"section,f.o,.a,4,4,A\nsection,f.o,.b,2,1,A\n",
+            0,
+            COUNTED,
+        ),
+        (
+            b"SECTIONS { . = 0xFFFFFFFFFFFFFFFE; .a : { *(.a) } }",
+            b"section,f.o,.a,1,1,A\n",
+            0,
+            LAST,
+        ),
+        (b"SECTIONS { . = 1; } SECTIONS { . = . + 1; }", b"", 0, b"location 0 0x0000000000000001\nlocation 1 0x0000000000000002\n"),
+    ];
+    for (script, table, status, text) in cases {
+        let (answer, out, err) = planned(alloc, script, table)?;
+        assert_eq!(rt; err.bytes(), b"".as_slice());
+        assert_eq!(rt; answer, status);
+        assert_eq!(rt; out.bytes(), text);
+    }
+    Ok(())
+}
+
+#[test]
+fn counter_faults(rt: HostRuntime) -> Result<(), Fail> {
+    let alloc = rt.alloc();
+    let cases: [(&[u8], &[u8], &[u8]); 9] = [
+        (
+            b"SECTIONS { . = 0x10; .a : { *(.a) } . = 0x10; .b : { *(.b) } }",
+            b"section,f.o,.a,1,1,A\nsection,f.o,.b,1,1,A\n",
+            b"fault 32 Overlap first=.a second=.b\n",
+        ),
+        (
+            b"SECTIONS { . = 8; .a : { *(.a) } . = 0; .b : { *(.b) } . = 2; .c : { *(.c) } }",
+            b"section,f.o,.a,4,1,A\nsection,f.o,.b,4,1,A\nsection,f.o,.c,8,1,A\n",
+            b"fault 32 Overlap first=.b second=.c\n",
+        ),
+        (
+            b"SECTIONS { . = 0xFFFFFFFFFFFFFFFE; .a : { *(.a) } }",
+            b"section,f.o,.a,2,1,A\n",
+            b"fault 34 Overflow left=18446744073709551614 right=2\n",
+        ),
+        (b"SECTIONS { . = ALIGN(0); }", b"", b"fault 24 AlignZero statement=0\n"),
+        (b"SECTIONS { . = 1 / 0; }", b"", b"fault 22 DivisionByZero statement=0\n"),
+        (b"SECTIONS { .a : { } . %= 0; }", b"", b"fault 1 Syntax position=22\n"),
+        (b"SECTIONS { .a : { } . = 1 % 0; }", b"", b"fault 23 ModuloByZero statement=2\n"),
+        (b"SECTIONS { .a : { } . = x; .a : { } }", b"", b"fault 38 Unsupported index=2\n"),
+        (
+            b"SECTIONS { . = 1 ? 2 : SIZEOF(.a); }",
+            b"",
+            b"fault 38 Unsupported index=0\n",
+        ),
+    ];
+    for (script, table, line) in cases {
+        let (answer, out, err) = planned(alloc, script, table)?;
+        assert_eq!(rt; err.bytes(), line);
+        assert_eq!(rt; answer, 1);
+        assert_eq!(rt; out.bytes(), b"".as_slice());
     }
     Ok(())
 }
