@@ -1,3 +1,4 @@
 pub mod Exponents
 pub mod Multiples
 pub mod Names
+pub mod Numbers

@@ -124,6 +124,14 @@ impl Alignment {
         })
     }
 
+    /// The exponent.
+    pub(crate) fn exponent(self) -> u32
+        ensures value { result ≡ self }
+        ensures supported { self ≤ 21 }
+    {
+        u32::from(self.exponent)
+    }
+
     /// How many bytes it is.
     pub fn value(self) -> u64
         ensures value { result ≡ 2 ^ self }
