@@ -7,6 +7,7 @@ mod input_flags;
 mod name;
 mod numbering;
 pub mod output_section_id;
+mod output_section_map;
 pub mod part_id;
 mod platform;
 
@@ -16,6 +17,7 @@ pub use input_flags::InputFlags;
 pub use name::Name;
 pub use numbering::Numbering;
 pub use output_section_id::{CommonSinglePartSectionId, OutputSectionId, PartIdIterator};
+pub use output_section_map::{OutputSectionMap, SectionEntries, SectionValues};
 pub use part_id::PartId;
 pub use platform::PlatformIds;
 
