@@ -6,3 +6,4 @@ pub mod Fault
 pub mod InputFlags
 pub mod Numbering
 pub mod Parts
+pub mod Target

@@ -2,6 +2,7 @@
 #![tactic(auto)]
 
 pub mod alignment;
+mod args;
 mod fault;
 mod input_flags;
 mod name;
@@ -10,8 +11,13 @@ pub mod output_section_id;
 mod output_section_map;
 pub mod part_id;
 mod platform;
+mod section_header;
+mod segment_name;
+mod steps;
+mod target;
 
 pub use alignment::{Alignment, AlignmentFault};
+pub use args::Args;
 pub use fault::{Fault, NoMemory};
 pub use input_flags::InputFlags;
 pub use name::Name;
@@ -20,6 +26,10 @@ pub use output_section_id::{CommonSinglePartSectionId, OutputSectionId, PartIdIt
 pub use output_section_map::{OutputSectionMap, SectionEntries, SectionValues};
 pub use part_id::PartId;
 pub use platform::PlatformIds;
+pub use section_header::SectionHeader;
+pub use segment_name::SegmentName;
+pub use steps::Steps;
+pub use target::{Architecture, Endianness, RelocationModel};
 
 #[cfg(test)]
 mod tests;
