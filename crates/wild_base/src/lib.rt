@@ -32,4 +32,6 @@ pub use steps::Steps;
 pub use target::{Architecture, Endianness, RelocationModel};
 
 #[cfg(test)]
+mod id_tests;
+#[cfg(test)]
 mod tests;
