@@ -2,11 +2,7 @@
 
 ghost use Rattle.std.specs.Prelude.{◌≡◌, ◌+◌, ◌*◌};
 
-use crate::alignment::{self, NUM_ALIGNMENTS};
-use crate::output_section_id::{
-    self, NUM_COMMON_SINGLE_PART_SECTIONS, num_built_in_sections, regular_section_base,
-};
-use crate::part_id::{self, regular_part_base};
+use crate::alignment::NUM_ALIGNMENTS;
 use crate::*;
 use bitflags::Flags;
 use std::marker::Brand;

@@ -22,9 +22,12 @@ pub use fault::{Fault, NoMemory};
 pub use input_flags::InputFlags;
 pub use name::Name;
 pub use numbering::Numbering;
-pub use output_section_id::{CommonSinglePartSectionId, OutputSectionId, PartIdIterator};
+pub use output_section_id::{
+    CommonSinglePartSectionId, NUM_COMMON_SINGLE_PART_SECTIONS, OutputSectionId, PartIdIterator,
+    num_built_in_sections, regular_section_base,
+};
 pub use output_section_map::{OutputSectionMap, SectionEntries, SectionValues};
-pub use part_id::PartId;
+pub use part_id::{PartId, regular_part_base};
 pub use platform::PlatformIds;
 pub use section_header::SectionHeader;
 pub use segment_name::SegmentName;

@@ -199,7 +199,7 @@ impl OutputSectionId {
 }
 
 /// The parts of a section that are left. Contracts see it as the list of their numbers.
-#[derive(Debug, Drop)]
+#[derive(Drop)]
 pub struct PartIdIterator {
     next: u32,
     end: u32,

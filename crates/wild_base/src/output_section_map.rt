@@ -174,12 +174,12 @@ fn call_each<T, F: FnMut(OutputSectionId, &T)>(values: &[T], mut cb: F)
     requires callable { F.IsAlwaysCallable cb }
     ensures { (last : F) × CallsEach F.step cb 0 values.now last }
 {
-    let mut rest = values;
+    let mut left = values;
     let mut id = 0;
-    while let Some((x, tail)) = rest.split_first() {
+    while let Some((x, tail)) = left.split_first() {
         cb(OutputSectionId(id), x);
         id += 1;
-        rest = tail;
+        left = tail;
     }
 }
 
