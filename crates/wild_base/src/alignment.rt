@@ -148,6 +148,7 @@ impl Alignment {
     }
 
     /// The least multiple that is not below the value. It has to fit 64 bits.
+    #[tactic(auto, using(crate::proofs::Multiples::is_rounded_up))]
     pub fn align_up(self, value: u64) -> u64
         requires { rounded_up (2 ^ self) value < 2 ^ 64 }
         ensures value { result ≡ rounded_up (2 ^ self) value }
@@ -157,6 +158,7 @@ impl Alignment {
     }
 
     /// The same for a length or an index.
+    #[tactic(auto, using(crate::proofs::Multiples::is_rounded_up))]
     pub fn align_up_usize(self, value: usize) -> usize
         requires { rounded_up (2 ^ self) value < 2 ^ 64 }
         ensures value { result ≡ rounded_up (2 ^ self) value }

@@ -1,7 +1,5 @@
-use Rattle.std.proofs.Common.{◌^◌}
-use Rattle.std.proofs.lemmas.Nat.{pow_pos}
-use Rattle.wild_base.proofs.Multiples.{down_is_greatest}
+use Rattle.wild_base.proofs.Multiples.{is_rounded_down}
 use Rattle.wild_base.proofs.alignment.Alignment.align_down.Goals as goal
 
 pub returns-clause-greatest : goal.returns-clause-greatest
-returns-clause-greatest c = rw c.value.ensures.value (down_is_greatest (2 ^ c.args.self) c.args.value (pow_pos c.args.self))
+returns-clause-greatest c = is_rounded_down c.args.self c.args.value _ (cc)
