@@ -182,8 +182,8 @@ impl Alignment {
         value - value % self.value()
     }
 
-    /// The least number that is not below `align_up(offset)` and leaves the rest that `ref_offset` leaves, when both are
-    /// divided by the alignment: where a piece of a file may stand in memory. It has to fit 64 bits.
+    /// The least number that is not below `align_up(offset)` and leaves the rest that `ref_offset` leaves, when both
+    /// are divided by the alignment. It has to fit 64 bits.
     pub fn align_modulo(self, ref_offset: u64, offset: u64) -> u64
         requires { moved_to (2 ^ self) ref_offset offset < 2 ^ 64 }
         ensures value { result ≡ moved_to (2 ^ self) ref_offset offset }

@@ -1,4 +1,5 @@
-//! What all crates share: names, alignments, ids of sections and parts, maps from them, flags of input sections, faults.
+//! What all crates share: names, alignments, ids of sections and parts, maps from sections, flags and headers of input
+//! sections, faults.
 #![tactic(auto)]
 
 pub mod alignment;

@@ -165,7 +165,8 @@ impl OutputSectionId {
         requires { SectionFits P.NUM_SINGLE_PART_SECTIONS self }
         ensures start { result.start ≡ base_part P.NUM_SINGLE_PART_SECTIONS P.part_of self }
         ensures end { result.end ≡ result.start + part_count P.NUM_SINGLE_PART_SECTIONS self }
-        ensures back { (part : ℕ) → result.start ≤ part → part < result.end → section_with P.NUM_SINGLE_PART_SECTIONS P.section_of part ≡ self }
+        ensures back { (part : ℕ) → result.start ≤ part → part < result.end
+            → section_with P.NUM_SINGLE_PART_SECTIONS P.section_of part ≡ self }
     {
         let start = self.base_part_id::<P>();
         let end = start.offset(self.num_parts::<P>());
@@ -175,9 +176,13 @@ impl OutputSectionId {
     /// These parts, one by one.
     pub fn parts<P: PlatformIds>(self) -> PartIdIterator
         requires { SectionFits P.NUM_SINGLE_PART_SECTIONS self }
-        ensures range { result ≡ numbers_from (base_part P.NUM_SINGLE_PART_SECTIONS P.part_of self) (part_count P.NUM_SINGLE_PART_SECTIONS self) }
-        ensures falling { P.NUM_SINGLE_PART_SECTIONS ≤ self → (k : ℕ) → k ≤ 21 → slice_index result k ≡ part_for P.NUM_SINGLE_PART_SECTIONS self (21 - k) }
-        ensures back { (k : ℕ) → k < part_count P.NUM_SINGLE_PART_SECTIONS self → section_with P.NUM_SINGLE_PART_SECTIONS P.section_of (slice_index result k) ≡ self }
+        ensures range { result ≡ numbers_from
+            (base_part P.NUM_SINGLE_PART_SECTIONS P.part_of self)
+            (part_count P.NUM_SINGLE_PART_SECTIONS self) }
+        ensures falling { P.NUM_SINGLE_PART_SECTIONS ≤ self → (k : ℕ) → k ≤ 21
+            → slice_index result k ≡ part_for P.NUM_SINGLE_PART_SECTIONS self (21 - k) }
+        ensures back { (k : ℕ) → k < part_count P.NUM_SINGLE_PART_SECTIONS self
+            → section_with P.NUM_SINGLE_PART_SECTIONS P.section_of (slice_index result k) ≡ self }
     {
         let range = self.part_id_range::<P>();
         PartIdIterator {

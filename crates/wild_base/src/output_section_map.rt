@@ -77,8 +77,8 @@ impl<T> OutputSectionMap<T> {
         &mut self.values[id.as_usize()]
     }
 
-    /// Gives the value to a new section, whose id is the number of sections so far, and has to be below 2 ^ 32 - 1. Where
-    /// memory runs out it hands the value back, and the map is as before.
+    /// Gives the value to a new section, whose id is the number of sections so far, and has to be below 2 ^ 32 - 1.
+    /// Where memory runs out it hands the value back, and the map is as before.
     pub fn add_new(&mut self, value: T) -> Result<OutputSectionId, T>
         requires { length self.old < 2 ^ 32 - 1 }
         ensures ok { IfOk result (λ id. (id ≡ length self.old) × (self.new ≡ self.old ++ value ∷ [])) }
@@ -126,7 +126,8 @@ impl<T> OutputSectionMap<T> {
         change_each(&mut self.values, cb)
     }
 
-    /// Calls the closure at each section and its value, in the order of ids, up to the first refusal, which is the answer.
+    /// Calls the closure at each section and its value, in the order of ids, up to the first refusal, which is the
+    /// answer.
     pub fn try_for_each<E, F: FnMut(OutputSectionId, &T) -> Result<(), E>>(
         &self,
         cb: F,
@@ -139,7 +140,8 @@ impl<T> OutputSectionMap<T> {
 }
 
 impl<T: Drop> OutputSectionMap<T> {
-    /// The closure's answers at the values, in the order of ids. Where memory runs out it fails, and the values are dropped.
+    /// The closure's answers at the values, in the order of ids. Where memory runs out it fails, and the values are
+    /// dropped.
     pub fn into_map<U: Drop, F: FnMut(T) -> U>(
         self,
         alloc: Global,

@@ -6,8 +6,8 @@ ghost use Rattle.wild_base.specs.Parts.{LeadsBack};
 use crate::output_section_id::OutputSectionId;
 use crate::part_id::PartId;
 
-/// The ids of a platform's built-in output sections. Those with a single part come first, then the regular ones, which
-/// have a part for each alignment. Custom sections come behind them.
+/// The ids of a platform's built-in output sections. Those with a single part come first, then the regular ones,
+/// which have a part for each alignment. Custom sections come behind them.
 pub trait PlatformIds {
     /// How many sections have a single part, and how many parts these are.
     const NUM_SINGLE_PART_SECTIONS: u32;

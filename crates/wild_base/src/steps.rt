@@ -7,8 +7,8 @@ use std::sync::ledger::{Blank, Book, Ledger, Share};
 
 /// How many steps were taken. Contracts see it as the number; the program keeps nothing of it, and it takes no bytes.
 ///
-/// It is of one ledger, `L`. A function that is generic in `L` can make no other count of that ledger, so what it does to
-/// the one that it is passed is to tick, and its contract says how often.
+/// It is of one ledger, `L`. A function that is generic in `L` can make no other count of that ledger, so what it does
+/// to the one that it is passed is to tick, and its contract says how often.
 #[derive(Drop)]
 pub struct Steps<L: Ledger> {
     book: Book<L>,
