@@ -1,8 +1,8 @@
-//! Powers of two that an address is rounded up to.
+//! Powers of two that an address is rounded to.
 
 ghost use Rattle.std.specs.Prelude.{◌≡◌, ℕ, ◌-◌, ◌%◌, ◌^◌, ◌<◌, ◌≤◌, MatchOption, Some, SomeIff, decimal};
 ghost use Rattle.std.specs.Result.{result_ok};
-ghost use Rattle.wild_base.specs.Alignment.{rounded_up, exponent_of, IsLeastMultiple, NewAlignment};
+ghost use Rattle.wild_base.specs.Alignment.{rounded_up, rounded_down, moved_to, exponent_of, IsLeastMultiple, IsGreatestMultiple, IsLeastCongruent, NewAlignment, FromExponent};
 
 use std::fmt;
 use std::marker::Model;
@@ -109,12 +109,27 @@ impl Alignment {
         if 1 << exponent != raw {
             return Err(AlignmentFault::NotPowerOfTwo);
         }
+        Alignment::from_exponent(exponent)
+    }
+
+    /// The alignment of 2 ^ exponent bytes. Fails where the exponent is above 21.
+    pub fn from_exponent(exponent: u32) -> Result<Alignment, AlignmentFault>
+        ensures { FromExponent exponent result }
+    {
         if exponent > 21 {
             return Err(AlignmentFault::TooLarge);
         }
         Ok(Alignment {
             exponent: exponent as u8,
         })
+    }
+
+    /// The exponent.
+    pub(crate) fn exponent(self) -> u32
+        ensures value { result ≡ self }
+        ensures supported { self ≤ 21 }
+    {
+        u32::from(self.exponent)
     }
 
     /// How many bytes it is.
@@ -132,11 +147,48 @@ impl Alignment {
         self.value() - 1
     }
 
+    /// The least multiple that is not below the value. It has to fit 64 bits.
+    #[tactic(auto, using(crate::proofs::Multiples::is_rounded_up))]
+    pub fn align_up(self, value: u64) -> u64
+        requires { rounded_up (2 ^ self) value < 2 ^ 64 }
+        ensures value { result ≡ rounded_up (2 ^ self) value }
+        ensures least { IsLeastMultiple (2 ^ self) value result }
+    {
+        value.next_multiple_of(self.value())
+    }
+
+    /// The same for a length or an index.
+    #[tactic(auto, using(crate::proofs::Multiples::is_rounded_up))]
+    pub fn align_up_usize(self, value: usize) -> usize
+        requires { rounded_up (2 ^ self) value < 2 ^ 64 }
+        ensures value { result ≡ rounded_up (2 ^ self) value }
+        ensures least { IsLeastMultiple (2 ^ self) value result }
+    {
+        value.next_multiple_of(self.value() as usize)
+    }
+
     /// The least multiple that is not below the value, or none where it doesn't fit 64 bits.
     pub fn try_align_up(self, value: u64) -> Option<u64>
         ensures value { SomeIff result (rounded_up (2 ^ self) value < 2 ^ 64) (rounded_up (2 ^ self) value) }
         ensures least { MatchOption result ((n : ℕ) → n % 2 ^ self ≡ 0 → value ≤ n → 2 ^ 64 ≤ n) (IsLeastMultiple (2 ^ self) value) }
     {
         value.checked_next_multiple_of(self.value())
+    }
+    /// The greatest multiple that is not above the value.
+    pub fn align_down(self, value: u64) -> u64
+        ensures value { result ≡ rounded_down (2 ^ self) value }
+        ensures greatest { IsGreatestMultiple (2 ^ self) value result }
+    {
+        value - value % self.value()
+    }
+
+    /// The least number that is not below `align_up(offset)` and leaves the rest that `ref_offset` leaves, when both
+    /// are divided by the alignment. It has to fit 64 bits.
+    pub fn align_modulo(self, ref_offset: u64, offset: u64) -> u64
+        requires { moved_to (2 ^ self) ref_offset offset < 2 ^ 64 }
+        ensures value { result ≡ moved_to (2 ^ self) ref_offset offset }
+        ensures least { IsLeastCongruent (2 ^ self) ref_offset (rounded_up (2 ^ self) offset) result }
+    {
+        self.align_up(offset) + ref_offset % self.value()
     }
 }
