@@ -1,1 +1,4 @@
 pub mod Escape
+pub mod Class
+pub mod Spelling
+pub mod Match

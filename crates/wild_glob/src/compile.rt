@@ -1,0 +1,94 @@
+//! Reads patterns.
+
+ghost use Rattle.std.specs.Prelude.{◌≡◌, ◌<◌, ◌+◌, IfOk, length, Bool, true};
+ghost use Rattle.wild_glob.specs.Spelling as spec;
+ghost use Rattle.wild_glob.specs.Class.{items_len as items_len_of};
+ghost use Rattle.wild_glob.specs.declared.compile.PatternFault.TheVariants as fault;
+
+use crate::class::{class_items, items_len};
+use crate::piece::{First, Piece};
+use sqlite_items::Items;
+use std::alloc::{AllocError, Global};
+use wild_base::NoMemory;
+
+/// Why bytes are no pattern.
+#[derive(Clone, Copy, Debug, PartialEq, Eq)]
+pub enum PatternFault {
+    /// There are no bytes.
+    Empty,
+    /// The bytes are not UTF-8.
+    NotUtf8,
+    /// The text has no reading: two `*` pieces stand side by side, a backslash stands last, or a class has no closing
+    /// bracket.
+    Shape,
+    /// Memory ran out.
+    NoMemory,
+}
+
+impl From<NoMemory> for PatternFault {
+    ghost from_gives = { λ _ e. e ≡ fault.NoMemory };
+
+    fn from(_error: NoMemory) -> PatternFault {
+        PatternFault::NoMemory
+    }
+}
+
+impl From<AllocError> for PatternFault {
+    ghost from_gives = { λ _ e. e ≡ fault.NoMemory };
+
+    fn from(_error: AllocError) -> PatternFault {
+        PatternFault::NoMemory
+    }
+}
+
+fn any_run(behind: &[char]) -> Result<First, PatternFault>
+    ensures reads { spec.Reads (spec.any_run behind.now) result }
+{
+    if behind.first() == Some(&'*') {
+        return Err(PatternFault::Shape);
+    }
+    Ok(First {
+        piece: Piece::AnyRun,
+        behind: 0,
+    })
+}
+
+fn escaped(behind: &[char]) -> Result<First, PatternFault>
+    ensures reads { spec.Reads (spec.escaped behind.now) result }
+{
+    match behind {
+        [] => Err(PatternFault::Shape),
+        [character, ..] => Ok(First {
+            piece: Piece::Literal(*character),
+            behind: 1,
+        }),
+    }
+}
+
+fn class_of(
+    alloc: Global,
+    negated: bool,
+    before: usize,
+    content: &[char],
+) -> Result<First, PatternFault>
+    requires { before < 2 }
+    ensures reads { spec.Reads (spec.class_of negated before content.now (items_len_of content.now)) result }
+{
+    let Some(len) = items_len(content) else {
+        return Err(PatternFault::Shape);
+    };
+    let items = class_items(alloc, &content[..len])?;
+    Ok(First {
+        piece: Piece::Class { negated, items },
+        behind: before + len + 1,
+    })
+}
+
+fn class(alloc: Global, behind: &[char]) -> Result<First, PatternFault>
+    ensures reads { spec.Reads (spec.class behind.now) result }
+{
+    match behind {
+        ['!', content @ ..] => class_of(alloc, true, 1, content),
+        content => class_of(alloc, false, 0, content),
+    }
+}
