@@ -1,6 +1,6 @@
 //! Reads patterns.
 
-ghost use Rattle.std.specs.Prelude.{◌≡◌, ◌<◌, ◌+◌, IfOk, length, Bool, true};
+ghost use Rattle.std.specs.Prelude.{◌≡◌, ◌<◌, ◌≤◌, ◌+◌, IfOk, length, Bool, true};
 ghost use Rattle.wild_glob.specs.Spelling as spec;
 ghost use Rattle.wild_glob.specs.Class.{items_len as items_len_of};
 ghost use Rattle.wild_glob.specs.declared.compile.PatternFault.TheVariants as fault;
@@ -43,6 +43,7 @@ impl From<AllocError> for PatternFault {
 
 fn any_run(behind: &[char]) -> Result<First, PatternFault>
     ensures reads { spec.Reads (spec.any_run behind.now) result }
+    ensures within { IfOk result (λ f. f.behind ≤ length behind.now) }
 {
     if behind.first() == Some(&'*') {
         return Err(PatternFault::Shape);
@@ -55,6 +56,7 @@ fn any_run(behind: &[char]) -> Result<First, PatternFault>
 
 fn escaped(behind: &[char]) -> Result<First, PatternFault>
     ensures reads { spec.Reads (spec.escaped behind.now) result }
+    ensures within { IfOk result (λ f. f.behind ≤ length behind.now) }
 {
     match behind {
         [] => Err(PatternFault::Shape),
@@ -73,6 +75,7 @@ fn class_of(
 ) -> Result<First, PatternFault>
     requires { before < 2 }
     ensures reads { spec.Reads (spec.class_of negated before content.now (items_len_of content.now)) result }
+    ensures within { IfOk result (λ f. f.behind ≤ before + length content.now) }
 {
     let Some(len) = items_len(content) else {
         return Err(PatternFault::Shape);
@@ -86,9 +89,44 @@ fn class_of(
 
 fn class(alloc: Global, behind: &[char]) -> Result<First, PatternFault>
     ensures reads { spec.Reads (spec.class behind.now) result }
+    ensures within { IfOk result (λ f. f.behind ≤ length behind.now) }
 {
     match behind {
         ['!', content @ ..] => class_of(alloc, true, 1, content),
         content => class_of(alloc, false, 0, content),
     }
+}
+
+fn first_piece(alloc: Global, text: &[char]) -> Result<First, PatternFault>
+    ensures reads { spec.Reads (spec.first_piece text.now) result }
+    ensures within { IfOk result (λ f. f.behind < length text.now) }
+{
+    match text {
+        ['*', behind @ ..] => any_run(behind),
+        ['?', ..] => Ok(First {
+            piece: Piece::AnyCharacter,
+            behind: 0,
+        }),
+        ['[', behind @ ..] => class(alloc, behind),
+        ['\\', behind @ ..] => escaped(behind),
+        [character, ..] => Ok(First {
+            piece: Piece::Literal(*character),
+            behind: 0,
+        }),
+        [] => Err(PatternFault::Shape),
+    }
+}
+
+fn pieces(alloc: Global, text: &[char]) -> Result<Items<Piece>, PatternFault>
+    ensures { spec.Reads (spec.pieces text.now) result }
+{
+    let mut pieces = Items::new(alloc);
+    let mut rest = text;
+    while let [_, others @ ..] = rest {
+        let first = first_piece(alloc, rest)?;
+        let (_, behind) = others.split_at(first.behind);
+        pieces.push(first.piece)?;
+        rest = behind;
+    }
+    Ok(pieces)
 }
