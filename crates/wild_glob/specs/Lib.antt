@@ -1,4 +1,6 @@
 pub mod Escape
 pub mod Class
 pub mod Spelling
+pub mod Compiled
 pub mod Match
+pub mod Walk

@@ -11,11 +11,21 @@ abbrev pub is_of : ℕ → ClassItem → Bool
 is_of c (One a) = c == a
 is_of c (Range a b) = nat_le a c && nat_le c b
 
--- whether a piece that takes one character takes this one
+-- whether the items list a character
+abbrev pub lists : List ClassItem → ℕ → Bool
+lists items c = list_any (is_of c) items
+
+abbrev pub is_any_run : Piece → Bool
+is_any_run AnyRun = true
+is_any_run AnyCharacter = false
+is_any_run (Class negated items) = false
+is_any_run (Literal a) = false
+
+-- whether a piece takes one character, and takes this one
 abbrev pub admits : Piece → ℕ → Bool
 admits AnyRun c = false
 admits AnyCharacter c = true
-admits (Class negated items) c = if negated then not (list_any (is_of c) items) else list_any (is_of c) items
+admits (Class negated items) c = if negated then not (lists items c) else lists items c
 admits (Literal a) c = c == a
 
 -- whether a test passes at some suffix of a text, itself and the empty one included

@@ -4,8 +4,8 @@ use Rattle.wild_glob.specs.Class.{items_len, class_items}
 use Rattle.wild_glob.specs.declared.piece.First.{First}
 use Rattle.wild_glob.specs.declared.piece.Piece.{Piece}
 use Rattle.wild_glob.specs.declared.piece.Piece.TheVariants.{AnyRun, AnyCharacter, Class, Literal}
-use Rattle.wild_glob.specs.declared.compile.PatternFault.{PatternFault}
-use Rattle.wild_glob.specs.declared.compile.PatternFault.TheVariants.{Shape, NoMemory}
+use Rattle.wild_glob.specs.declared.fault.PatternFault.{PatternFault}
+use Rattle.wild_glob.specs.declared.fault.PatternFault.TheVariants.{Shape, NoMemory}
 
 abbrev pub first_of : Piece → ℕ → Option First
 first_of piece n = Some (record { piece = piece; behind = n })

@@ -2,9 +2,13 @@
 #![tactic(auto)]
 
 mod class;
-mod compile;
 mod escape;
+mod fault;
+mod matching;
+mod pattern;
 mod piece;
+mod spelling;
 
-pub use compile::PatternFault;
 pub use escape::{GlobPatternType, analyze_glob_pattern, unescape_pattern};
+pub use fault::PatternFault;
+pub use pattern::{Pattern, compile_glob_pattern};

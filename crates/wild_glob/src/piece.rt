@@ -1,5 +1,8 @@
 //! What a pattern consists of.
 
+ghost use Rattle.std.specs.Prelude.{◌≡◌};
+ghost use Rattle.wild_glob.specs.Match as spec;
+
 use sqlite_items::Items;
 
 /// A part of a pattern.
@@ -25,6 +28,44 @@ pub enum ClassItem {
     One(char),
     /// The characters from the first to the last, both included: none where they are reversed.
     Range(char, char),
+}
+
+impl Piece {
+    /// Whether it is `*`.
+    pub fn is_any_run(&self) -> bool
+        ensures { result ≡ spec.is_any_run self.now }
+    {
+        matches!(self, Piece::AnyRun)
+    }
+
+    /// Whether it takes one character, and takes this one.
+    pub fn admits(&self, character: char) -> bool
+        ensures { result ≡ spec.admits self.now character }
+    {
+        match self {
+            Piece::AnyRun => false,
+            Piece::AnyCharacter => true,
+            Piece::Class { negated, items } => lists(items.as_slice(), character) != *negated,
+            Piece::Literal(wanted) => character == *wanted,
+        }
+    }
+}
+
+fn lists(items: &[ClassItem], character: char) -> bool
+    ensures { result ≡ spec.lists items.now character }
+{
+    items.iter().any(|item| item.has(character))
+}
+
+impl ClassItem {
+    fn has(self, character: char) -> bool
+        ensures { result ≡ spec.is_of character self }
+    {
+        match self {
+            ClassItem::One(wanted) => character == wanted,
+            ClassItem::Range(low, high) => low <= character && character <= high,
+        }
+    }
 }
 
 /// The piece that a text begins with.

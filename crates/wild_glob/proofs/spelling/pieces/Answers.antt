@@ -1,7 +1,7 @@
 use Rattle.std.proofs.Common.{◌≡◌, sym, ◌∙◌, ap, drop}
 use Rattle.std.proofs.lemmas.List.{take_rest}
 use Rattle.wild_glob.proofs.Pieces.{pieces_step}
-use Rattle.wild_glob.proofs.compile.pieces.Goals as goal
+use Rattle.wild_glob.proofs.spelling.pieces.Goals as goal
 
 pub loop-rest-preserved : goal.loop-rest-preserved
 loop-rest-preserved c =

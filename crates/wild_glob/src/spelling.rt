@@ -1,45 +1,14 @@
-//! Reads patterns.
+//! Reads the pieces that a text spells.
 
-ghost use Rattle.std.specs.Prelude.{◌≡◌, ◌<◌, ◌≤◌, ◌+◌, IfOk, length, Bool, true};
+ghost use Rattle.std.specs.Prelude.{◌≡◌, ◌<◌, ◌≤◌, ◌+◌, IfOk, length};
 ghost use Rattle.wild_glob.specs.Spelling as spec;
 ghost use Rattle.wild_glob.specs.Class.{items_len as items_len_of};
-ghost use Rattle.wild_glob.specs.declared.compile.PatternFault.TheVariants as fault;
 
 use crate::class::{class_items, items_len};
+use crate::fault::PatternFault;
 use crate::piece::{First, Piece};
 use sqlite_items::Items;
-use std::alloc::{AllocError, Global};
-use wild_base::NoMemory;
-
-/// Why bytes are no pattern.
-#[derive(Clone, Copy, Debug, PartialEq, Eq)]
-pub enum PatternFault {
-    /// There are no bytes.
-    Empty,
-    /// The bytes are not UTF-8.
-    NotUtf8,
-    /// The text has no reading: two `*` pieces stand side by side, a backslash stands last, or a class has no closing
-    /// bracket.
-    Shape,
-    /// Memory ran out.
-    NoMemory,
-}
-
-impl From<NoMemory> for PatternFault {
-    ghost from_gives = { λ _ e. e ≡ fault.NoMemory };
-
-    fn from(_error: NoMemory) -> PatternFault {
-        PatternFault::NoMemory
-    }
-}
-
-impl From<AllocError> for PatternFault {
-    ghost from_gives = { λ _ e. e ≡ fault.NoMemory };
-
-    fn from(_error: AllocError) -> PatternFault {
-        PatternFault::NoMemory
-    }
-}
+use std::alloc::Global;
 
 fn any_run(behind: &[char]) -> Result<First, PatternFault>
     ensures reads { spec.Reads (spec.any_run behind.now) result }
@@ -117,7 +86,8 @@ fn first_piece(alloc: Global, text: &[char]) -> Result<First, PatternFault>
     }
 }
 
-fn pieces(alloc: Global, text: &[char]) -> Result<Items<Piece>, PatternFault>
+/// The pieces that a text spells: Shape exactly where it has no reading.
+pub fn pieces(alloc: Global, text: &[char]) -> Result<Items<Piece>, PatternFault>
     ensures { spec.Reads (spec.pieces text.now) result }
 {
     let mut pieces = Items::new(alloc);
