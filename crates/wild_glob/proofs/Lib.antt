@@ -1,3 +1,5 @@
 pub mod Escapes
 pub mod Pieces
 pub mod Texts
+pub mod Suffixes
+pub mod Walks
