@@ -24,11 +24,11 @@ pub comes_one : (ps : List Piece) (text : List ℕ) (p : Piece) (left qs : List 
     → Comes ps text left rest → left ≡ p ∷ qs → is_any_run p ≡ false → chars rest ≡ c ∷ chars later → length later < length rest
     → admits p c ≡ true → Comes ps text qs later
 comes_one ps text p left qs rest later c so e single_p first shorter admitted = record {
-    same = so.same ∙ ap (λ l. matches l (chars rest)) e ∙ ap (λ f. f (chars rest)) (single p qs single_p) ∙ ap (one_then p (matches qs)) first ∙ rw admitted refl;
-    later = λ h. suffix_past p (matches qs) c (chars later) (rw (e, single p qs single_p, first) at (so.later h));
-    fewer = omega (arith, ap length e, so.fewer);
-    shorter = omega (arith, so.shorter)
-  }
+  same = so.same ∙ ap (λ l. matches l (chars rest)) e ∙ ap (λ f. f (chars rest)) (single p qs single_p) ∙ ap (one_then p (matches qs)) first ∙ rw admitted refl;
+  later = λ h. suffix_past p (matches qs) c (chars later) (rw (e, single p qs single_p, first) at (so.later h));
+  fewer = omega (arith, ap length e, so.fewer);
+  shorter = omega (arith, so.shorter);
+}
 
 -- a `*` behind a run that fits here
 pub passes_run : (ps : List Piece) (text : List ℕ) (left : List Piece) (rest : List ℕ) → RunsTo ps text left rest → 1 ≤ length left

@@ -12,3 +12,6 @@ mod spelling;
 pub use escape::{GlobPatternType, analyze_glob_pattern, unescape_pattern};
 pub use fault::PatternFault;
 pub use pattern::{Pattern, compile_glob_pattern};
+
+#[cfg(test)]
+mod tests;

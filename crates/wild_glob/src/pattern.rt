@@ -7,9 +7,8 @@ ghost use Rattle.wild_glob.specs.Compiled.{compiled, IsText};
 ghost use Rattle.wild_glob.specs.declared.fault.PatternFault.TheVariants as fault;
 
 use crate::fault::PatternFault;
-use crate::matching;
-use crate::piece::Piece;
-use crate::spelling;
+use crate::piece::{Piece, copy_pieces};
+use crate::{matching, spelling};
 use sqlite_items::Items;
 use std::alloc::Global;
 use std::marker::Model;
@@ -59,6 +58,14 @@ fn characters(alloc: Global, text: &str) -> Result<Vec<char>, NoMemory>
 }
 
 impl Pattern {
+    /// The same pattern once more. Fails where memory runs out.
+    pub fn copy(&self, alloc: Global) -> Result<Pattern, NoMemory>
+        ensures { IfOk result (λ copy. copy ≡ self.now) }
+    {
+        let pieces = copy_pieces(alloc, self.pieces.as_slice())?;
+        Ok(Pattern { pieces })
+    }
+
     /// Whether it matches the whole text. It takes at most (pieces + 1) * (characters + 1) steps, and no memory.
     pub fn matches(&self, text: &str) -> bool
         ensures { result ≡ spec.matches self.now (chars text.now) }

@@ -1,9 +1,11 @@
 //! What a pattern consists of.
 
-ghost use Rattle.std.specs.Prelude.{◌≡◌};
+ghost use Rattle.std.specs.Prelude.{◌≡◌, IfOk};
 ghost use Rattle.wild_glob.specs.Match as spec;
 
 use sqlite_items::Items;
+use std::alloc::Global;
+use wild_base::NoMemory;
 
 /// A part of a pattern.
 #[derive(Debug, Drop)]
@@ -31,6 +33,24 @@ pub enum ClassItem {
 }
 
 impl Piece {
+    /// The same piece once more. Fails where memory runs out.
+    pub fn copy(&self, alloc: Global) -> Result<Piece, NoMemory>
+        ensures { IfOk result (λ piece. piece ≡ self.now) }
+    {
+        match self {
+            Piece::AnyRun => Ok(Piece::AnyRun),
+            Piece::AnyCharacter => Ok(Piece::AnyCharacter),
+            Piece::Class { negated, items } => {
+                let items = Items::from_slice(alloc, items.as_slice())?;
+                Ok(Piece::Class {
+                    negated: *negated,
+                    items,
+                })
+            }
+            Piece::Literal(character) => Ok(Piece::Literal(*character)),
+        }
+    }
+
     /// Whether it is `*`.
     pub fn is_any_run(&self) -> bool
         ensures { result ≡ spec.is_any_run self.now }
@@ -49,6 +69,18 @@ impl Piece {
             Piece::Literal(wanted) => character == *wanted,
         }
     }
+}
+
+/// The same pieces once more. Fails where memory runs out.
+pub fn copy_pieces(alloc: Global, pieces: &[Piece]) -> Result<Items<Piece>, NoMemory>
+    ensures { IfOk result (λ copies. copies ≡ pieces.now) }
+{
+    let mut copies = Items::new(alloc);
+    for piece in pieces {
+        let copy = piece.copy(alloc)?;
+        copies.push(copy)?;
+    }
+    Ok(copies)
 }
 
 fn lists(items: &[ClassItem], character: char) -> bool

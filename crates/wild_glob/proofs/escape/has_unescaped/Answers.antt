@@ -5,5 +5,6 @@ use Rattle.wild_glob.proofs.escape.has_unescaped.Goals.{then-escaped, else-escap
 
 pub loop-byte-preserved : goal.loop-byte-preserved
 loop-byte-preserved c = elim c.if-escaped.branch [
-    then-escaped w ↦ rw w.escaped-is (sym (has_behind_escaped c.args.wanted c.args.pattern.now c.loop-byte.byte-index (omega arith)) ∙ (rw w.if-escaped.true at c.loop-byte.invariant))
-  | else-escaped+else-byte-wanted w ↦ rw w.escaped-is (sym (has_behind_other c.args.wanted c.args.pattern.now c.loop-byte.byte-index (omega arith) w.if-byte-wanted.false) ∙ (rw w.if-escaped.false at c.loop-byte.invariant)) ]
+  | then-escaped w ↦ rw w.escaped-is (sym (has_behind_escaped c.args.wanted c.args.pattern.now c.loop-byte.byte-index (omega arith)) ∙ (rw w.if-escaped.true at c.loop-byte.invariant))
+  | else-escaped+else-byte-wanted w ↦ rw w.escaped-is (sym (has_behind_other c.args.wanted c.args.pattern.now c.loop-byte.byte-index (omega arith) w.if-byte-wanted.false) ∙ (rw w.if-escaped.false at c.loop-byte.invariant))
+]

@@ -7,10 +7,11 @@ use Rattle.wild_glob.proofs.matching.matches_some_suffix.Goals as goal
 
 pub loop-rest-preserved-in-Some-1 : goal.loop-rest-preserved-in-Some-1
 loop-rest-preserved-in-Some-1 c =
-    let end = c.in-Some-len1-up-default in
-    (search rules,
-    ap (λ l. some_suffix (matches l) (chars end.rest.now)) (take_rest end.field-0-0.now 1)
-    ∙ sym (passes_run_later c.loop-rest.left.now c.loop-rest.start.now end.field-0-0.now end.rest.now end.ensures end.len_at_least) ∙ c.loop-rest.invariant.1)
+    let end = c.in-Some-len1-up-default in (
+      search rules,
+      ap (λ l. some_suffix (matches l) (chars end.rest.now)) (take_rest end.field-0-0.now 1)
+          ∙ sym (passes_run_later c.loop-rest.left.now c.loop-rest.start.now end.field-0-0.now end.rest.now end.ensures end.len_at_least) ∙ c.loop-rest.invariant.1,
+    )
 
 pub returns-in-Some-empty-default : goal.returns-in-Some-empty-default
 returns-in-Some-empty-default c =
