@@ -1,10 +1,11 @@
 -- One byte of a pattern, and what stands behind it.
-use Rattle.std.proofs.Common.{◌≡◌, ◌≢◌, ◌⊎◌, ℕ, ◌+◌, ◌<◌, Bool, true, false, List, [], ◌∷◌, ◌++◌, length, drop, get_or, eqb, refl, sym, ◌∙◌, arith, append_assoc, ap}
+use Rattle.std.proofs.Common.{◌≡◌, ◌≢◌, ℕ, ◌+◌, ◌<◌, Bool, true, false, List, [], ◌∷◌, ◌++◌, length, drop, get_or, eqb, refl, sym, ◌∙◌, append_assoc, ap}
 use Rattle.std.specs.Prelude.{if◌then◌else◌, not, ◌&&◌}
 use Rattle.std.specs.List.{list_any}
 use Rattle.std.proofs.lemmas.List.{at_drop_more}
 use Rattle.std.proofs.lemmas.Bool.{ne_eqb, eqb-false, eqb-true}
-use Rattle.wild_glob.specs.Escape.{backslash, unescaped_from, without_escapes}
+use Rattle.wild_glob.specs.Character.{backslash}
+use Rattle.wild_glob.specs.Escape.{unescaped_from, without_escapes}
 
 abbrev pub has_from : ℕ → Bool → List ℕ → Bool
 has_from wanted escaped bs = list_any (λ b. eqb b wanted) (unescaped_from escaped bs)

@@ -1,7 +1,7 @@
 -- Tests at some suffix of a text.
 use Rattle.std.proofs.Common.{◌≡◌, ℕ, Bool, true, false, List, [], ◌∷◌, refl, sym, ◌⊎◌, inl, inr, ⊎_elim}
-use Rattle.std.specs.Prelude.{◌||◌, ◌&&◌}
-use Rattle.std.proofs.lemmas.Bool.{and_parts, cases_Bool}
+use Rattle.std.specs.Prelude.{◌||◌}
+use Rattle.std.proofs.lemmas.Bool.{and_parts}
 use Rattle.wild_glob.specs.declared.piece.Piece.{Piece}
 use Rattle.wild_glob.specs.Match.{some_suffix, one_then}
 

@@ -1,5 +1,5 @@
 -- Texts and the bytes of patterns.
-use Rattle.std.proofs.Common.{◌≡◌, ◌≢◌, ℕ, ◌+◌, ◌<◌, true, false, List, [], ◌∷◌, ◌++◌, length, Option, None, Result, Err, refl, sym, ◌∙◌, ◌⊎◌, inl, inr, eqb, ap, arith, length-append, IsUtf8, ⊎_elim}
+use Rattle.std.proofs.Common.{◌≡◌, ◌≢◌, ℕ, ◌<◌, false, List, [], ◌∷◌, ◌++◌, length, Option, None, Result, Err, refl, sym, ◌∙◌, ◌⊎◌, inl, inr, eqb, ap, arith, length-append, IsUtf8, ⊎_elim}
 use Rattle.std.specs.Str.{chars, is_utf8}
 use Rattle.std.proofs.lemmas.Bool.{cases_Bool}
 use Rattle.std.proofs.lemmas.Str.{chars_past_char, length-encode, len_utf8_bounds, is_utf8-from_IsUtf8, IsUtf8-from_is_utf8}

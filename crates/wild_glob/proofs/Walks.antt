@@ -1,10 +1,10 @@
 -- The walk up to the next `*`, and from there on.
-use Rattle.std.proofs.Common.{◌≡◌, ◌≤◌, ◌<◌, ℕ, Bool, true, false, List, [], ◌∷◌, length, drop, refl, sym, ◌∙◌, ap, arith}
+use Rattle.std.proofs.Common.{◌≡◌, ◌≤◌, ◌<◌, ℕ, true, false, List, [], ◌∷◌, length, drop, refl, ◌∙◌, ap, arith}
 use Rattle.std.specs.Str.{chars}
 use Rattle.wild_glob.specs.declared.piece.Piece.{Piece}
 use Rattle.wild_glob.specs.declared.piece.Piece.TheVariants.{AnyRun, AnyCharacter, Class, Literal}
 use Rattle.wild_glob.specs.Match.{is_any_run, admits, some_suffix, one_then, matches}
-use Rattle.wild_glob.specs.Walk.{StopsAtRun, Comes, RunsTo}
+use Rattle.wild_glob.specs.Walk.{Comes, RunsTo}
 use Rattle.wild_glob.proofs.Suffixes.{same, suffix_here, suffix_twice, suffix_past}
 
 single : (p : Piece) (ps : List Piece) → is_any_run p ≡ false → matches (p ∷ ps) ≡ one_then p (matches ps)

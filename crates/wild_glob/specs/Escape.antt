@@ -1,12 +1,9 @@
 -- Backslashes in patterns, and what kind of pattern they make.
 use Rattle.std.specs.Prelude.{ℕ, Bool, true, false, ◌||◌, ◌==◌, if◌then◌else◌, List, [], ◌∷◌}
 use Rattle.std.specs.List.{list_any}
+use Rattle.wild_glob.specs.Character.{star, question_mark, open_bracket, backslash}
 use Rattle.wild_glob.specs.declared.escape.GlobPatternType.{GlobPatternType}
 use Rattle.wild_glob.specs.declared.escape.GlobPatternType.TheVariants.{Exact, EscapedExact, Star, NonStar}
-
--- `\`, which escapes the byte behind it
-abbrev pub backslash : ℕ
-backslash = 92
 
 -- the bytes that are not escaped, where the first one is escaped or not: a byte is escaped directly behind a backslash
 -- that is itself not escaped
@@ -24,8 +21,8 @@ has_unescaped b bs = list_any (λ c. c == b) (unescaped_bytes bs)
 -- `*`, then `?` or `[`, then a backslash
 abbrev pub pattern_type : List ℕ → GlobPatternType
 pattern_type bs =
-    if has_unescaped 42 bs then Star
-    else if has_unescaped 63 bs || has_unescaped 91 bs then NonStar
+    if has_unescaped star bs then Star
+    else if has_unescaped question_mark bs || has_unescaped open_bracket bs then NonStar
     else if has_unescaped backslash bs then EscapedExact
     else Exact
 

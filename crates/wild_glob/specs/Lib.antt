@@ -1,3 +1,4 @@
+pub mod Character
 pub mod Escape
 pub mod Class
 pub mod Spelling

@@ -6,14 +6,14 @@ use Rattle.wild_glob.specs.declared.piece.ClassItem.TheVariants.{One, Range}
 use Rattle.wild_glob.specs.declared.piece.Piece.{Piece}
 use Rattle.wild_glob.specs.declared.piece.Piece.TheVariants.{AnyRun, AnyCharacter, Class, Literal}
 
--- whether a character is of an item
-abbrev pub is_of : ℕ → ClassItem → Bool
-is_of c (One a) = c == a
-is_of c (Range a b) = nat_le a c && nat_le c b
+-- whether an item contains a character
+abbrev pub contains : ClassItem → ℕ → Bool
+contains (One a) c = c == a
+contains (Range a b) c = nat_le a c && nat_le c b
 
 -- whether the items list a character
 abbrev pub lists : List ClassItem → ℕ → Bool
-lists items c = list_any (is_of c) items
+lists items c = list_any (λ item. contains item c) items
 
 abbrev pub is_any_run : Piece → Bool
 is_any_run AnyRun = true

@@ -1,5 +1,6 @@
 -- The pieces that a text spells.
 use Rattle.std.specs.Prelude.{◌≡◌, ℕ, zero, suc, ◌+◌, Bool, true, false, ◌==◌, if◌then◌else◌, List, [], ◌∷◌, take, Option, Some, None, Result, IfOk, IfErr, ◌⊎◌}
+use Rattle.wild_glob.specs.Character.{star, question_mark, open_bracket, exclamation_mark, backslash}
 use Rattle.wild_glob.specs.Class.{items_len, class_items}
 use Rattle.wild_glob.specs.declared.piece.First.{First}
 use Rattle.wild_glob.specs.declared.piece.Piece.{Piece}
@@ -13,7 +14,7 @@ first_of piece n = Some (record { piece = piece; behind = n })
 -- `*`, where no other one stands behind it
 abbrev pub any_run : List ℕ → Option First
 any_run [] = first_of AnyRun 0
-any_run (c ∷ cs) = if c == 42 then None else first_of AnyRun 0
+any_run (c ∷ cs) = if c == star then None else first_of AnyRun 0
 
 -- a class with so many characters before its items, of so many characters
 abbrev pub class_of : Bool → ℕ → List ℕ → Option ℕ → Option First
@@ -23,7 +24,7 @@ class_of negated before cs (Some n) = first_of (Class negated (class_items (take
 -- what stands behind a `[`: items and `]`, or, where it begins with `!`, this `!`, items and `]`
 abbrev pub class : List ℕ → Option First
 class [] = None
-class (c ∷ cs) = if c == 33 then class_of true 1 cs (items_len cs) else class_of false 0 (c ∷ cs) (items_len (c ∷ cs))
+class (c ∷ cs) = if c == exclamation_mark then class_of true 1 cs (items_len cs) else class_of false 0 (c ∷ cs) (items_len (c ∷ cs))
 
 -- a backslash and a character
 abbrev pub escaped : List ℕ → Option First
@@ -34,10 +35,10 @@ escaped (c ∷ cs) = first_of (Literal c) 1
 abbrev pub first_piece : List ℕ → Option First
 first_piece [] = None
 first_piece (c ∷ cs) =
-    if c == 42 then any_run cs
-    else if c == 63 then first_of AnyCharacter 0
-    else if c == 91 then class cs
-    else if c == 92 then escaped cs
+    if c == star then any_run cs
+    else if c == question_mark then first_of AnyCharacter 0
+    else if c == open_bracket then class cs
+    else if c == backslash then escaped cs
     else first_of (Literal c) 0
 
 abbrev pub put_first : Piece → Option (List Piece) → Option (List Piece)

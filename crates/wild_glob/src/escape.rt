@@ -1,8 +1,8 @@
 //! Backslashes in patterns, and what kind of pattern they make.
 
 ghost use Rattle.std.specs.Prelude.{◌≡◌, ◌==◌, ◌&&◌, not, IfOk};
-ghost use Rattle.std.specs.List.{list_any};
-ghost use Rattle.wild_glob.specs.Escape.{unescaped_bytes, pattern_type, without_escapes};
+ghost use Rattle.wild_glob.specs.Character.{backslash};
+ghost use Rattle.wild_glob.specs.Escape.{has_unescaped, pattern_type, without_escapes};
 
 use std::alloc::Global;
 use wild_base::{Name, NoMemory};
@@ -36,7 +36,7 @@ pub fn analyze_glob_pattern(pattern: &[u8]) -> GlobPatternType
 }
 
 fn has_unescaped(pattern: &[u8], wanted: u8) -> bool
-    ensures { result ≡ list_any (λ b. b == wanted) (unescaped_bytes pattern.now) }
+    ensures { result ≡ has_unescaped wanted pattern.now }
 {
     let mut escaped = false;
     for byte in pattern {
@@ -53,7 +53,7 @@ fn has_unescaped(pattern: &[u8], wanted: u8) -> bool
 
 // Whether a byte, itself escaped or not, escapes the next one.
 fn escapes(escaped: bool, byte: u8) -> bool
-    ensures { result ≡ (not escaped && byte == 92) }
+    ensures { result ≡ (not escaped && byte == backslash) }
 {
     !escaped && byte == b'\\'
 }

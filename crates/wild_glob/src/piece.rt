@@ -86,12 +86,12 @@ pub fn copy_pieces(alloc: Global, pieces: &[Piece]) -> Result<Items<Piece>, NoMe
 fn lists(items: &[ClassItem], character: char) -> bool
     ensures { result ≡ spec.lists items.now character }
 {
-    items.iter().any(|item| item.has(character))
+    items.iter().any(|item| item.contains(character))
 }
 
 impl ClassItem {
-    fn has(self, character: char) -> bool
-        ensures { result ≡ spec.is_of character self }
+    fn contains(self, character: char) -> bool
+        ensures { result ≡ spec.contains self character }
     {
         match self {
             ClassItem::One(wanted) => character == wanted,

@@ -1,4 +1,4 @@
-use Rattle.std.proofs.Common.{◌≡◌, sym, ◌∙◌, arith}
+use Rattle.std.proofs.Common.{sym, ◌∙◌, arith}
 use Rattle.wild_glob.proofs.Escapes.{has_behind_escaped, has_behind_other}
 use Rattle.wild_glob.proofs.escape.has_unescaped.Goals as goal
 use Rattle.wild_glob.proofs.escape.has_unescaped.Goals.{then-escaped, else-escaped+else-byte-wanted}

@@ -1,5 +1,5 @@
-use Rattle.std.proofs.Common.{◌≡◌, sym, ◌∙◌, ap, arith, ◌++◌, ◌∷◌, [], get_or, rules}
-use Rattle.wild_glob.proofs.Escapes.{rest_of, rest_behind_kept, rest_behind_escape}
+use Rattle.std.proofs.Common.{◌≡◌, sym, ◌∙◌, arith, ◌++◌, ◌∷◌, [], get_or, rules}
+use Rattle.wild_glob.proofs.Escapes.{rest_behind_kept, rest_behind_escape}
 use Rattle.wild_glob.proofs.escape.unescape_pattern.Goals as goal
 use Rattle.wild_glob.proofs.escape.unescape_pattern.Goals.{then-not-escaped+in_ok-push, else-not-escaped}
 

@@ -1,4 +1,4 @@
-use Rattle.std.proofs.Common.{◌≡◌, ◌∙◌, sym, ap, inl, inr, Some, Err}
+use Rattle.std.proofs.Common.{◌∙◌, sym, ap, inl, Some, Err}
 use Rattle.std.proofs.lemmas.Result.{err_from_is_err_and}
 use Rattle.std.specs.Str.{chars}
 use Rattle.wild_glob.proofs.Texts.{nonempty, compiled_other, compiled_read, refused}

@@ -1,4 +1,4 @@
-use Rattle.std.proofs.Common.{◌≡◌, sym, ◌∙◌, ap, drop}
+use Rattle.std.proofs.Common.{sym, ◌∙◌, ap, drop}
 use Rattle.std.proofs.lemmas.List.{take_rest}
 use Rattle.wild_glob.proofs.Pieces.{pieces_step}
 use Rattle.wild_glob.proofs.spelling.pieces.Goals as goal
