@@ -9,7 +9,7 @@ abbrev pub put_all : List Piece → Option (List Piece) → Option (List Piece)
 put_all ps None = None
 put_all ps (Some qs) = Some (ps ++ qs)
 
-pieces_behind-drop : (n : ℕ) (cs : List ℕ) → pieces_behind n cs ≡ pieces (drop n cs)
+pub pieces_behind-drop : (n : ℕ) (cs : List ℕ) → pieces_behind n cs ≡ pieces (drop n cs)
 pieces_behind-drop zero cs = refl
 pieces_behind-drop (suc n) [] = refl
 pieces_behind-drop (suc n) (c ∷ cs) = pieces_behind-drop n cs

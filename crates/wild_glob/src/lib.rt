@@ -4,6 +4,7 @@
 mod class;
 mod escape;
 mod fault;
+mod laws;
 mod matching;
 mod pattern;
 mod piece;
@@ -11,6 +12,7 @@ mod spelling;
 
 pub use escape::{GlobPatternType, analyze_glob_pattern, unescape_pattern};
 pub use fault::PatternFault;
+pub use laws::pieces_are_spelled;
 pub use pattern::{Pattern, compile_glob_pattern};
 
 #[cfg(test)]
