@@ -1,10 +1,9 @@
 -- Where the closing bracket of a class stands.
-use Rattle.std.proofs.Common.{◌≡◌, ℕ, ◌+◌, Bool, true, false, List, [], ◌∷◌, ◌++◌, length, Option, Some, refl, sym, ◌∙◌, ap, eqb, arith, add-zero, ◌⊎◌, ⊎_elim}
+use Rattle.std.proofs.Common.{◌≡◌, ℕ, ◌+◌, Bool, false, List, [], ◌∷◌, ◌++◌, length, Some, refl, sym, ◌∙◌, ap, eqb, arith, add-zero, ⊎_elim}
 use Rattle.std.specs.List.{list_any, position_from}
 use Rattle.std.proofs.lemmas.Bool.{or_parts}
 use Rattle.std.proofs.lemmas.Bool.Decides.{eqb_tells}
 use Rattle.wild_glob.specs.Character.{close_bracket}
-use Rattle.wild_glob.specs.Class.{items_len}
 
 abbrev pub closes : ℕ → Bool
 closes c = eqb c close_bracket
@@ -31,14 +30,19 @@ split_at_bracket [] i n e = cc
 split_at_bracket (c ∷ cs) i n e =
     ⊎_elim
     (λ t. let h : Some i ≡ Some n = rw t.0 at e in
-          (0, (omega (arith, some_same i n h), record { front = []; rest = cs; whole = ap (λ x. x ∷ cs) t.1; none = refl; len = refl })))
+    (0, (omega (arith, some_same i n h), record { front = []; rest = cs; whole = ap (λ x. x ∷ cs) t.1; none = refl; len = refl })))
     (λ t. let h : position_from closes (i + 1) cs ≡ Some n = rw t.0 at e in
-          let s = split_at_bracket cs (i + 1) n h in
-          (s.0 + 1, (omega (arith, s.1.0), record {
-              front = c ∷ s.1.1.front;
-              rest = s.1.1.rest;
-              whole = ap (λ xs. c ∷ xs) s.1.1.whole;
-              none = rw t.0 s.1.1.none;
-              len = omega (arith, s.1.1.len)
-          })))
+    let s = split_at_bracket cs (i + 1) n h in (
+      s.0 + 1,
+      (
+        omega (arith, s.1.0),
+        record {
+          front = c ∷ s.1.1.front;
+          rest = s.1.1.rest;
+          whole = ap (λ xs. c ∷ xs) s.1.1.whole;
+          none = rw t.0 s.1.1.none;
+          len = omega (arith, s.1.1.len);
+        },
+      ),
+    ))
     (eqb_tells c close_bracket)

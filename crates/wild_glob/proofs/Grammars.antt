@@ -1,5 +1,5 @@
 -- The pieces of a text are those that it spells.
-use Rattle.std.proofs.Common.{◌≡◌, ◌≢◌, ◌⊎◌, inl, inr, ℕ, suc, zero, ◌+◌, Bool, true, false, List, [], ◌∷◌, ◌++◌, length, take, drop, Option, Some, None, refl, sym, ◌∙◌, ap, subst, eqb, arith, ⊎_elim, append_assoc, length-append}
+use Rattle.std.proofs.Common.{◌≡◌, ◌≢◌, ◌⊎◌, inl, inr, ℕ, ◌+◌, Bool, true, false, List, [], ◌∷◌, ◌++◌, length, take, drop, Option, Some, None, refl, sym, ◌∙◌, ap, subst, eqb, arith, ⊎_elim, append_assoc, length-append}
 use Rattle.std.specs.List.{list_any}
 use Rattle.std.proofs.lemmas.Bool.{ne_eqb, eqb-true, cases_Bool}
 use Rattle.std.proofs.lemmas.Bool.Decides.{eqb_tells}
@@ -13,7 +13,7 @@ use Rattle.wild_glob.specs.Class.{items_len, class_items}
 use Rattle.wild_glob.specs.Spelling.{first_of, any_run, class_of, class, escaped, first_piece, put_first, first_then, pieces_behind, pieces}
 use Rattle.wild_glob.specs.Grammar.{opening, IsContent, IsPlain, IsSpelling, IsApart, Spells}
 use Rattle.wild_glob.proofs.Pieces.{pieces_behind-drop}
-use Rattle.wild_glob.proofs.Closing.{closes, position_of_bracket, Splits, split_at_bracket}
+use Rattle.wild_glob.proofs.Closing.{closes, position_of_bracket, split_at_bracket}
 
 abbrev pub begins_star : List ℕ → Bool
 begins_star [] = false
@@ -69,12 +69,12 @@ from_class_of negated c cs f (Some n) other len e =
     let taken : take n (c ∷ cs) ≡ content = ap (λ xs. take n xs) whole ∙ take_at content (close_bracket ∷ s.1.1.rest) n long in
     another_first (opening negated ++ (c ∷ cs)) (record { piece = Class negated (class_items (take n (c ∷ cs))); behind = before negated + n + 1 }) f e
     (record {
-        first = opening negated ++ (content ++ close_bracket ∷ []);
-        rest = s.1.1.rest;
-        whole = ap (λ xs. opening negated ++ xs) whole ∙ simp append_assoc;
-        is = (content, ((other, s.1.1.none), ap class_items taken, refl));
-        long = length-append (opening negated) (content ++ close_bracket ∷ []) ∙ omega (arith, length-opening negated, length-append content (close_bracket ∷ []), long);
-        apart = λ h. cc
+      first = opening negated ++ (content ++ close_bracket ∷ []);
+      rest = s.1.1.rest;
+      whole = ap (λ xs. opening negated ++ xs) whole ∙ simp append_assoc;
+      is = (content, ((other, s.1.1.none), ap class_items taken, refl));
+      long = length-append (opening negated) (content ++ close_bracket ∷ []) ∙ omega (arith, length-opening negated, length-append content (close_bracket ∷ []), long);
+      apart = λ h. cc;
     })
 
 from_negated : (cs : List ℕ) (f : First) → class_of true 1 cs (items_len cs) ≡ Some f → Begins (open_bracket ∷ exclamation_mark ∷ cs) f.piece f.behind
@@ -94,17 +94,17 @@ from_first [] f e = cc
 from_first (c ∷ cs) f e =
     ⊎_elim (λ t. rw t.1 (from_any_run cs f (rw t.0 at e)))
     (λ t. let e1 = rw t.0 at e in
-      ⊎_elim (λ u. rw u.1 (another_first (question_mark ∷ cs) (record { piece = AnyCharacter; behind = 0 }) f (rw u.0 at e1)
-        (record { first = question_mark ∷ []; rest = cs; whole = refl; is = refl; long = refl; apart = λ h. cc })))
-      (λ u. let e2 = rw u.0 at e1 in
-        ⊎_elim (λ v. rw v.1 (from_class cs f (rw v.0 at e2)))
-        (λ v. let e3 = rw v.0 at e2 in
-          ⊎_elim (λ w. rw w.1 (from_escaped cs f (rw w.0 at e3)))
-          (λ w. another_first (c ∷ cs) (record { piece = Literal c; behind = 0 }) f (rw w.0 at e3)
-            (record { first = c ∷ []; rest = cs; whole = refl; is = inr ((t.1, u.1, v.1, w.1), refl); long = refl; apart = λ h. cc }))
-          (eqb_tells c backslash))
-        (eqb_tells c open_bracket))
-      (eqb_tells c question_mark))
+    ⊎_elim (λ u. rw u.1 (another_first (question_mark ∷ cs) (record { piece = AnyCharacter; behind = 0 }) f (rw u.0 at e1)
+    (record { first = question_mark ∷ []; rest = cs; whole = refl; is = refl; long = refl; apart = λ h. cc })))
+    (λ u. let e2 = rw u.0 at e1 in
+    ⊎_elim (λ v. rw v.1 (from_class cs f (rw v.0 at e2)))
+    (λ v. let e3 = rw v.0 at e2 in
+    ⊎_elim (λ w. rw w.1 (from_escaped cs f (rw w.0 at e3)))
+    (λ w. another_first (c ∷ cs) (record { piece = Literal c; behind = 0 }) f (rw w.0 at e3)
+    (record { first = c ∷ []; rest = cs; whole = refl; is = inr ((t.1, u.1, v.1, w.1), refl); long = refl; apart = λ h. cc }))
+    (eqb_tells c backslash))
+    (eqb_tells c open_bracket))
+    (eqb_tells c question_mark))
     (eqb_tells c star)
 
 -- ---- from a spelling to the first piece
@@ -151,7 +151,7 @@ class_found negated items first rest (c ∷ cs) h listed is =
     record {
       behind = before negated + (1 + length cs) + 1;
       found = ap first_piece whole ∙ to_class negated c cs rest h ∙ ap (λ xs. first_of (Class negated xs) (before negated + (1 + length cs) + 1)) (sym listed);
-      long = ap length is ∙ length-append (opening negated) (content ++ close_bracket ∷ []) ∙ omega (arith, length-opening negated, length-append content (close_bracket ∷ []))
+      long = ap length is ∙ length-append (opening negated) (content ++ close_bracket ∷ []) ∙ omega (arith, length-opening negated, length-append content (close_bracket ∷ []));
     }
 
 to_first : (p : Piece) (first rest : List ℕ) → IsSpelling p first → (p ≡ AnyRun → begins_star rest ≡ false) → Finds p first rest
@@ -211,12 +211,12 @@ spelled (p ∷ ps) cs e =
     ⊎_elim
     (λ h. let no : (p ∷ ps) ≡ [] = h.1 in cc)
     (λ t.
-      let b = from_first cs t.f t.found in
-      let piece : t.f.piece ≡ p = cc in
-      let others : t.qs ≡ ps = cc in
-      let rest : drop t.f.behind (drop 1 cs) ≡ b.rest = ap (λ xs. drop t.f.behind (drop 1 xs)) b.whole ∙ behind_spelling b.first b.rest t.f.behind b.long in
-      let tail = spelled ps b.rest (ap pieces (sym rest) ∙ t.others ∙ ap (λ qs. Some qs) others) in
-      (b.first, (b.rest, (b.whole, subst (λ (q : Piece). IsSpelling q b.first) piece b.is, apart_behind p ps b.rest (λ a. b.apart (piece ∙ a)) tail, tail))))
+    let b = from_first cs t.f t.found in
+    let piece : t.f.piece ≡ p = cc in
+    let others : t.qs ≡ ps = cc in
+    let rest : drop t.f.behind (drop 1 cs) ≡ b.rest = ap (λ xs. drop t.f.behind (drop 1 xs)) b.whole ∙ behind_spelling b.first b.rest t.f.behind b.long in
+    let tail = spelled ps b.rest (ap pieces (sym rest) ∙ t.others ∙ ap (λ qs. Some qs) others) in
+    (b.first, (b.rest, (b.whole, subst (λ (q : Piece). IsSpelling q b.first) piece b.is, apart_behind p ps b.rest (λ a. b.apart (piece ∙ a)) tail, tail))))
     (empty_or_takes cs (p ∷ ps) e)
 
 -- behind a `*` that stands apart comes no other
