@@ -45,12 +45,12 @@ pub fn compile_glob_pattern(alloc: Global, pattern: &[u8]) -> Result<Pattern, Pa
     let Ok(text) = str::from_utf8(pattern) else {
         return Err(PatternFault::NotUtf8);
     };
-    let characters = characters(alloc, text)?;
+    let characters = to_characters(alloc, text)?;
     let pieces = spelling::pieces(alloc, characters.as_slice())?;
     Ok(Pattern { pieces })
 }
 
-fn characters(alloc: Global, text: &str) -> Result<Vec<char>, NoMemory>
+fn to_characters(alloc: Global, text: &str) -> Result<Vec<char>, NoMemory>
     ensures { IfOk result (λ characters. characters.items ≡ chars text.now) }
 {
     let characters = text.chars().collect(alloc)?;
