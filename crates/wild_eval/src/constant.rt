@@ -62,7 +62,19 @@ pub fn evaluate_const(e: &Expression) -> Result<u64, ConstFault>
             turned(unary(e), a.get())
         }
         Expression::Ternary(condition, a, b) => choice(condition.get(), a.get(), b.get()),
-        _ => Err(ConstFault::NotConstant),
+        Expression::LocationCounter
+        | Expression::SizeofHeaders
+        | Expression::Symbol(_)
+        | Expression::Sizeof(_)
+        | Expression::Alignof(_)
+        | Expression::Addr(_)
+        | Expression::Loadaddr(_)
+        | Expression::Origin(_)
+        | Expression::Length(_)
+        | Expression::Defined(_)
+        | Expression::Align(_, _)
+        | Expression::SegmentStart(_, _)
+        | Expression::Assert(_) => Err(ConstFault::NotConstant),
     }
 }
 
