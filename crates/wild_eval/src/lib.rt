@@ -3,6 +3,7 @@
 
 mod arithmetic;
 mod constant;
+mod leaves;
 mod marks;
 mod operators;
 mod plain;
@@ -11,3 +12,6 @@ mod table;
 pub use constant::{ConstFault, evaluate_const};
 pub use plain::Reader;
 pub use table::{Numbers, Table};
+
+#[cfg(test)]
+mod tests;
