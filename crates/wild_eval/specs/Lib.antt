@@ -1,3 +1,4 @@
+pub mod Const
 pub mod Operators
 pub mod Plain
 pub mod Setting

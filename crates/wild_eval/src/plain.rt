@@ -7,8 +7,8 @@ ghost use Rattle.wild_eval.specs.Table.{known_of};
 ghost use Rattle.wild_value_spec.specs.Answer.{Returns};
 ghost use Rattle.wild_value_spec.specs.Value as value;
 
-use crate::arithmetic::{apply, change, decides, divide, holds, truth, truth_of};
-use crate::marks::{absolutely, bare, over, over_both, relatively, unmarked, unmarked_over};
+use crate::arithmetic::{apply, change, decides, divide, truth_of};
+use crate::marks::{over, over_both, unmarked};
 use crate::operators::{arithmetic, comparison, connective, division, unary};
 use crate::table::Table;
 use sqlite_items::Boxed;
@@ -48,135 +48,6 @@ fn zero_divisor(operator: Division, statement: usize) -> Fault
 }
 
 impl Reader<'_> {
-    fn section_name(&self, section: usize) -> Result<Name, Fault>
-        ensures { Returns result (Ok ((spec.setting self.now).section_name section)) }
-    {
-        match self.names.get(section) {
-            Some(name) => Ok(name.copy(self.alloc)?),
-            None => Ok(Name::from_vec(Vec::new(self.alloc))),
-        }
-    }
-
-    #[tactic(auto, unfolding(wild_value_spec::specs::Value::dot_of))]
-    fn dot(&self, place: usize) -> Result<u64, Fault>
-        ensures { Returns result (spec.dot_of self.now place) }
-    {
-        match self.table.known_dot(place) {
-            Some(dot) => Ok(dot),
-            None => Err(Fault::NotLaidOut {
-                statement: self.statement,
-                name: Name::new(self.alloc, b".")?,
-            }),
-        }
-    }
-
-    #[tactic(auto, unfolding(wild_value_spec::specs::Value::start_of))]
-    fn start(&self, section: usize) -> Result<u64, Fault>
-        ensures { Returns result (spec.start_of self.now section) }
-    {
-        match self.table.known_start(section) {
-            Some(start) => Ok(start),
-            None => Err(Fault::NotLaidOut {
-                statement: self.statement,
-                name: self.section_name(section)?,
-            }),
-        }
-    }
-
-    #[tactic(auto, unfolding(wild_value_spec::specs::Value::sum_of))]
-    fn sum(&self, left: u64, right: u64) -> Result<u64, Fault>
-        ensures { Returns result (spec.sum_of self.now left right) }
-    {
-        match left.checked_add(right) {
-            Some(sum) => Ok(sum),
-            None => Err(Fault::Overflow { left, right }),
-        }
-    }
-
-    #[tactic(auto, unfolding(wild_value_spec::specs::Value::multiple_from))]
-    fn multiple_from(&self, value: u64, align: u64) -> Result<u64, Fault>
-        requires { 0 < align }
-        ensures { Returns result (spec.multiple_from self.now value align) }
-    {
-        match value.checked_next_multiple_of(align) {
-            Some(multiple) => Ok(multiple),
-            None => Err(Fault::AlignOverflow { value, align }),
-        }
-    }
-
-    #[tactic(auto, unfolding(wild_value_spec::specs::Value::based))]
-    fn based(&self, point: Point, value: Value) -> Result<u64, Fault>
-        ensures { Returns result (spec.based self.now point value) }
-    {
-        match point.section {
-            None => Ok(value.number),
-            Some(section) => {
-                if value.relative || !value.absolute {
-                    let start = self.start(section)?;
-                    self.sum(value.number, start)
-                } else {
-                    Ok(value.number)
-                }
-            }
-        }
-    }
-
-    #[tactic(auto, unfolding(wild_value_spec::specs::Value::counter))]
-    fn counter(&self, point: Point) -> Result<Value, Fault>
-        ensures value { Returns result (spec.counter self.now point) }
-        ensures height { IfOk result (λ v. v.height ≤ 1) }
-    {
-        let dot = self.dot(point.place)?;
-        match point.section {
-            None => Ok(absolutely(dot)),
-            Some(section) => {
-                let start = self.start(section)?;
-                Ok(relatively(dot.saturating_sub(start)))
-            }
-        }
-    }
-
-    #[tactic(auto, unfolding(wild_value_spec::specs::Value::counter_number))]
-    fn counter_number(&self, point: Point) -> Result<Value, Fault>
-        ensures value { Returns result (spec.counter_number self.now point) }
-        ensures height { IfOk result (λ v. v.height ≡ 0) }
-    {
-        let counter = self.counter(point)?;
-        Ok(bare(counter.number))
-    }
-
-    // A comparison, of which the left side is known with its full value.
-    #[tactic(auto, unfolding(wild_value_spec::specs::Value::judged))]
-    fn judged(
-        &self,
-        comparison: Comparison,
-        point: Point,
-        first: u64,
-        x: Value,
-        y: Value,
-    ) -> Result<Value, Fault>
-        requires left_height { x.height < 1024 }
-        requires right_height { y.height < 1024 }
-        ensures value { Returns result (spec.judged self.now comparison point first x y) }
-        ensures height { IfOk result (λ v. v.height ≡ max x.height y.height + 1) }
-    {
-        let second = self.based(point, y)?;
-        Ok(unmarked_over(truth(holds(comparison, first, second)), x, y))
-    }
-
-    // The next multiple of an alignment from a value on.
-    #[tactic(auto, unfolding(wild_value_spec::specs::Value::raised))]
-    fn raised(&self, align: Value, x: Value) -> Result<Value, Fault>
-        requires nonzero { 0 < align.number }
-        requires align_height { align.height < 1024 }
-        requires value_height { x.height < 1024 }
-        ensures value { Returns result (spec.raised self.now align x) }
-        ensures height { IfOk result (λ v. v.height ≡ max align.height x.height + 1) }
-    {
-        let number = self.multiple_from(x.number, align.number)?;
-        Ok(over_both(number, align, x))
-    }
-
     /// The number that an expression stands for at a point.
     #[tactic(auto, unfolding(wild_value_spec::specs::Value::full))]
     pub fn full(&self, expression: &Expression, point: Point) -> Result<u64, Fault>
@@ -208,10 +79,10 @@ impl Reader<'_> {
     }
 
     #[cycle(evaluation)]
-    fn node(&self, left: usize, expression: &Expression, point: Point) -> Result<Value, Fault>
-        requires { left < 1024 }
-        ensures value { Returns result (spec.node self.now left expression.now point) }
-        ensures height { IfOk result (λ v. v.height ≤ left + 1) }
+    fn node(&self, levels: usize, expression: &Expression, point: Point) -> Result<Value, Fault>
+        requires { levels < 1024 }
+        ensures value { Returns result (spec.node self.now levels expression.now point) }
+        ensures height { IfOk result (λ v. v.height ≤ levels + 1) }
     {
         match expression {
             Expression::Number(number) => Ok(unmarked(*number)),
@@ -226,10 +97,10 @@ impl Reader<'_> {
             | Expression::RightShift(a, b)
             | Expression::Min(a, b)
             | Expression::Max(a, b) => {
-                self.calculated(left, arithmetic(expression), a.get(), b.get(), point)
+                self.calculated(levels, arithmetic(expression), a.get(), b.get(), point)
             }
             Expression::Divide(a, b) | Expression::Modulo(a, b) => {
-                self.divided(left, division(expression), a.get(), b.get(), point)
+                self.divided(levels, division(expression), a.get(), b.get(), point)
             }
             Expression::LessEqual(a, b)
             | Expression::GreaterEqual(a, b)
@@ -237,19 +108,19 @@ impl Reader<'_> {
             | Expression::NotEqual(a, b)
             | Expression::LessThan(a, b)
             | Expression::GreaterThan(a, b) => {
-                self.compared(left, comparison(expression), a.get(), b.get(), point)
+                self.compared(levels, comparison(expression), a.get(), b.get(), point)
             }
             Expression::LogicalAnd(a, b) | Expression::LogicalOr(a, b) => {
-                self.connected(left, connective(expression), a.get(), b.get(), point)
+                self.connected(levels, connective(expression), a.get(), b.get(), point)
             }
             Expression::LogicalNot(a) | Expression::BitwiseNot(a) | Expression::Negate(a) => {
-                self.turned(left, unary(expression), a.get(), point)
+                self.turned(levels, unary(expression), a.get(), point)
             }
             Expression::Ternary(condition, a, b) => {
-                self.choice(left, condition.get(), a.get(), b.get(), point)
+                self.choice(levels, condition.get(), a.get(), b.get(), point)
             }
             Expression::Align(alignment, held) => {
-                self.aligned(left, alignment.get(), held, point)
+                self.aligned(levels, alignment.get(), held, point)
             }
             _ => Err(Fault::Unsupported {
                 index: self.statement,
@@ -262,18 +133,18 @@ impl Reader<'_> {
     #[tactic(auto, unfolding(wild_value_spec::specs::Value::calculated))]
     fn calculated(
         &self,
-        left: usize,
+        levels: usize,
         operator: Arithmetic,
         a: &Expression,
         b: &Expression,
         point: Point,
     ) -> Result<Value, Fault>
-        requires { left < 1024 }
-        ensures value { Returns result (spec.calculated self.now left operator a.now b.now point) }
-        ensures height { IfOk result (λ v. v.height ≤ left + 1) }
+        requires { levels < 1024 }
+        ensures value { Returns result (spec.calculated self.now levels operator a.now b.now point) }
+        ensures height { IfOk result (λ v. v.height ≤ levels + 1) }
     {
-        let x = self.value(left, a, point)?;
-        let y = self.value(left, b, point)?;
+        let x = self.value(levels, a, point)?;
+        let y = self.value(levels, b, point)?;
         Ok(over_both(apply(operator, x.number, y.number), x, y))
     }
 
@@ -282,21 +153,21 @@ impl Reader<'_> {
     #[tactic(auto, unfolding(wild_value_spec::specs::Value::divided))]
     fn divided(
         &self,
-        left: usize,
+        levels: usize,
         operator: Division,
         a: &Expression,
         b: &Expression,
         point: Point,
     ) -> Result<Value, Fault>
-        requires { left < 1024 }
-        ensures value { Returns result (spec.divided self.now left operator a.now b.now point) }
-        ensures height { IfOk result (λ v. v.height ≤ left + 1) }
+        requires { levels < 1024 }
+        ensures value { Returns result (spec.divided self.now levels operator a.now b.now point) }
+        ensures height { IfOk result (λ v. v.height ≤ levels + 1) }
     {
-        let y = self.value(left, b, point)?;
+        let y = self.value(levels, b, point)?;
         if y.number == 0 {
             return Err(zero_divisor(operator, self.statement));
         }
-        let x = self.value(left, a, point)?;
+        let x = self.value(levels, a, point)?;
         Ok(over_both(divide(operator, x.number, y.number), x, y))
     }
 
@@ -305,19 +176,19 @@ impl Reader<'_> {
     #[tactic(auto, unfolding(wild_value_spec::specs::Value::compared))]
     fn compared(
         &self,
-        left: usize,
+        levels: usize,
         comparison: Comparison,
         a: &Expression,
         b: &Expression,
         point: Point,
     ) -> Result<Value, Fault>
-        requires { left < 1024 }
-        ensures value { Returns result (spec.compared self.now left comparison a.now b.now point) }
-        ensures height { IfOk result (λ v. v.height ≤ left + 1) }
+        requires { levels < 1024 }
+        ensures value { Returns result (spec.compared self.now levels comparison a.now b.now point) }
+        ensures height { IfOk result (λ v. v.height ≤ levels + 1) }
     {
-        let x = self.value(left, a, point)?;
+        let x = self.value(levels, a, point)?;
         let first = self.based(point, x)?;
-        let y = self.value(left, b, point)?;
+        let y = self.value(levels, b, point)?;
         self.judged(comparison, point, first, x, y)
     }
 
@@ -326,21 +197,21 @@ impl Reader<'_> {
     #[tactic(auto, unfolding(wild_value_spec::specs::Value::connected))]
     fn connected(
         &self,
-        left: usize,
+        levels: usize,
         operator: Connective,
         a: &Expression,
         b: &Expression,
         point: Point,
     ) -> Result<Value, Fault>
-        requires { left < 1024 }
-        ensures value { Returns result (spec.connected self.now left operator a.now b.now point) }
-        ensures height { IfOk result (λ v. v.height ≤ left + 1) }
+        requires { levels < 1024 }
+        ensures value { Returns result (spec.connected self.now levels operator a.now b.now point) }
+        ensures height { IfOk result (λ v. v.height ≤ levels + 1) }
     {
-        let x = self.value(left, a, point)?;
+        let x = self.value(levels, a, point)?;
         if decides(operator, x.number) {
             return Ok(over(truth_of(x.number), x));
         }
-        let y = self.value(left, b, point)?;
+        let y = self.value(levels, b, point)?;
         Ok(over_both(truth_of(y.number), x, y))
     }
 
@@ -349,16 +220,16 @@ impl Reader<'_> {
     #[tactic(auto, unfolding(wild_value_spec::specs::Value::turned))]
     fn turned(
         &self,
-        left: usize,
+        levels: usize,
         operator: Unary,
         a: &Expression,
         point: Point,
     ) -> Result<Value, Fault>
-        requires { left < 1024 }
-        ensures value { Returns result (spec.turned self.now left operator a.now point) }
-        ensures height { IfOk result (λ v. v.height ≤ left + 1) }
+        requires { levels < 1024 }
+        ensures value { Returns result (spec.turned self.now levels operator a.now point) }
+        ensures height { IfOk result (λ v. v.height ≤ levels + 1) }
     {
-        let x = self.value(left, a, point)?;
+        let x = self.value(levels, a, point)?;
         Ok(over(change(operator, x.number), x))
     }
 
@@ -367,18 +238,18 @@ impl Reader<'_> {
     #[tactic(auto, unfolding(wild_value_spec::specs::Value::choice))]
     fn choice(
         &self,
-        left: usize,
+        levels: usize,
         condition: &Expression,
         a: &Expression,
         b: &Expression,
         point: Point,
     ) -> Result<Value, Fault>
-        requires { left < 1024 }
-        ensures value { Returns result (spec.choice self.now left condition.now a.now b.now point) }
-        ensures height { IfOk result (λ v. v.height ≤ left + 1) }
+        requires { levels < 1024 }
+        ensures value { Returns result (spec.choice self.now levels condition.now a.now b.now point) }
+        ensures height { IfOk result (λ v. v.height ≤ levels + 1) }
     {
-        let x = self.value(left, condition, point)?;
-        let y = self.value(left, chosen(x.number, a, b), point)?;
+        let x = self.value(levels, condition, point)?;
+        let y = self.value(levels, chosen(x.number, a, b), point)?;
         Ok(over_both(y.number, x, y))
     }
 
@@ -387,22 +258,22 @@ impl Reader<'_> {
     #[tactic(auto, unfolding(wild_value_spec::specs::Value::aligned))]
     fn aligned(
         &self,
-        left: usize,
+        levels: usize,
         alignment: &Expression,
         held: &Option<Boxed<Expression>>,
         point: Point,
     ) -> Result<Value, Fault>
-        requires { left < 1024 }
-        ensures value { Returns result (spec.aligned self.now left alignment.now held.now point) }
-        ensures height { IfOk result (λ v. v.height ≤ left + 1) }
+        requires { levels < 1024 }
+        ensures value { Returns result (spec.aligned self.now levels alignment.now held.now point) }
+        ensures height { IfOk result (λ v. v.height ≤ levels + 1) }
     {
-        let x = self.value(left, alignment, point)?;
+        let x = self.value(levels, alignment, point)?;
         if x.number == 0 {
             return Err(Fault::AlignZero {
                 statement: self.statement,
             });
         }
-        let y = self.subject(left, held, point)?;
+        let y = self.subject(levels, held, point)?;
         self.raised(x, y)
     }
 
@@ -410,16 +281,16 @@ impl Reader<'_> {
     #[cycle(evaluation)]
     fn subject(
         &self,
-        left: usize,
+        levels: usize,
         held: &Option<Boxed<Expression>>,
         point: Point,
     ) -> Result<Value, Fault>
-        requires { left < 1024 }
-        ensures value { Returns result (spec.subject self.now left held.now point) }
-        ensures height { IfOk result (λ v. v.height ≤ left) }
+        requires { levels < 1024 }
+        ensures value { Returns result (spec.subject self.now levels held.now point) }
+        ensures height { IfOk result (λ v. v.height ≤ levels) }
     {
         match held {
-            Some(expression) => self.value(left, expression.get(), point),
+            Some(expression) => self.value(levels, expression.get(), point),
             None => self.counter_number(point),
         }
     }

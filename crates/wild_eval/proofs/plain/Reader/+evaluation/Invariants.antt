@@ -5,28 +5,28 @@ abbrev pub decreases-value : goal.decreases-value
 decreases-value l = 8 * l.levels
 
 abbrev pub decreases-node : goal.decreases-node
-decreases-node l = 8 * l.left + 7
+decreases-node l = 8 * l.levels + 7
 
 abbrev pub decreases-calculated : goal.decreases-calculated
-decreases-calculated l = 8 * l.left + 6
+decreases-calculated l = 8 * l.levels + 6
 
 abbrev pub decreases-divided : goal.decreases-divided
-decreases-divided l = 8 * l.left + 6
+decreases-divided l = 8 * l.levels + 6
 
 abbrev pub decreases-compared : goal.decreases-compared
-decreases-compared l = 8 * l.left + 6
+decreases-compared l = 8 * l.levels + 6
 
 abbrev pub decreases-connected : goal.decreases-connected
-decreases-connected l = 8 * l.left + 6
+decreases-connected l = 8 * l.levels + 6
 
 abbrev pub decreases-turned : goal.decreases-turned
-decreases-turned l = 8 * l.left + 6
+decreases-turned l = 8 * l.levels + 6
 
 abbrev pub decreases-choice : goal.decreases-choice
-decreases-choice l = 8 * l.left + 6
+decreases-choice l = 8 * l.levels + 6
 
 abbrev pub decreases-aligned : goal.decreases-aligned
-decreases-aligned l = 8 * l.left + 6
+decreases-aligned l = 8 * l.levels + 6
 
 abbrev pub decreases-subject : goal.decreases-subject
-decreases-subject l = 8 * l.left + 5
+decreases-subject l = 8 * l.levels + 5

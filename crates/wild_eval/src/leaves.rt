@@ -1,0 +1,142 @@
+//! What a reader does without looking into a part.
+
+ghost use Rattle.std.specs.Prelude.{◌≡◌, ◌<◌, ◌≤◌, ◌+◌, max, IfOk, Ok};
+ghost use Rattle.wild_eval.specs.Plain as spec;
+ghost use Rattle.wild_value_spec.specs.Answer.{Returns};
+
+use crate::arithmetic::{holds, truth};
+use crate::marks::{absolutely, bare, over_both, relatively, unmarked_over};
+use crate::plain::Reader;
+use wild_base::{Fault, Name};
+use wild_value_spec::{Comparison, Point, Value};
+
+impl Reader<'_> {
+    fn section_name(&self, section: usize) -> Result<Name, Fault>
+        ensures { Returns result (Ok ((spec.setting self.now).section_name section)) }
+    {
+        match self.names.get(section) {
+            Some(name) => Ok(name.copy(self.alloc)?),
+            None => Ok(Name::from_vec(Vec::new(self.alloc))),
+        }
+    }
+
+    #[tactic(auto, unfolding(wild_value_spec::specs::Value::dot_of))]
+    fn dot(&self, place: usize) -> Result<u64, Fault>
+        ensures { Returns result (spec.dot_of self.now place) }
+    {
+        match self.table.known_dot(place) {
+            Some(dot) => Ok(dot),
+            None => Err(Fault::NotLaidOut {
+                statement: self.statement,
+                name: Name::new(self.alloc, b".")?,
+            }),
+        }
+    }
+
+    #[tactic(auto, unfolding(wild_value_spec::specs::Value::start_of))]
+    fn start(&self, section: usize) -> Result<u64, Fault>
+        ensures { Returns result (spec.start_of self.now section) }
+    {
+        match self.table.known_start(section) {
+            Some(start) => Ok(start),
+            None => Err(Fault::NotLaidOut {
+                statement: self.statement,
+                name: self.section_name(section)?,
+            }),
+        }
+    }
+
+    #[tactic(auto, unfolding(wild_value_spec::specs::Value::sum_of))]
+    fn sum(&self, left: u64, right: u64) -> Result<u64, Fault>
+        ensures { Returns result (spec.sum_of self.now left right) }
+    {
+        match left.checked_add(right) {
+            Some(sum) => Ok(sum),
+            None => Err(Fault::Overflow { left, right }),
+        }
+    }
+
+    #[tactic(auto, unfolding(wild_value_spec::specs::Value::multiple_from))]
+    fn multiple_from(&self, value: u64, align: u64) -> Result<u64, Fault>
+        requires { 0 < align }
+        ensures { Returns result (spec.multiple_from self.now value align) }
+    {
+        match value.checked_next_multiple_of(align) {
+            Some(multiple) => Ok(multiple),
+            None => Err(Fault::AlignOverflow { value, align }),
+        }
+    }
+
+    #[tactic(auto, unfolding(wild_value_spec::specs::Value::based))]
+    pub(crate) fn based(&self, point: Point, value: Value) -> Result<u64, Fault>
+        ensures { Returns result (spec.based self.now point value) }
+    {
+        match point.section {
+            None => Ok(value.number),
+            Some(section) => {
+                if value.relative || !value.absolute {
+                    let start = self.start(section)?;
+                    self.sum(value.number, start)
+                } else {
+                    Ok(value.number)
+                }
+            }
+        }
+    }
+
+    #[tactic(auto, unfolding(wild_value_spec::specs::Value::counter))]
+    pub(crate) fn counter(&self, point: Point) -> Result<Value, Fault>
+        ensures value { Returns result (spec.counter self.now point) }
+        ensures height { IfOk result (λ v. v.height ≤ 1) }
+    {
+        let dot = self.dot(point.place)?;
+        match point.section {
+            None => Ok(absolutely(dot)),
+            Some(section) => {
+                let start = self.start(section)?;
+                Ok(relatively(dot.saturating_sub(start)))
+            }
+        }
+    }
+
+    #[tactic(auto, unfolding(wild_value_spec::specs::Value::counter_number))]
+    pub(crate) fn counter_number(&self, point: Point) -> Result<Value, Fault>
+        ensures value { Returns result (spec.counter_number self.now point) }
+        ensures height { IfOk result (λ v. v.height ≡ 0) }
+    {
+        let counter = self.counter(point)?;
+        Ok(bare(counter.number))
+    }
+
+    // A comparison, of which the left side is known with its full value.
+    #[tactic(auto, unfolding(wild_value_spec::specs::Value::judged))]
+    pub(crate) fn judged(
+        &self,
+        comparison: Comparison,
+        point: Point,
+        first: u64,
+        x: Value,
+        y: Value,
+    ) -> Result<Value, Fault>
+        requires left_height { x.height < 1024 }
+        requires right_height { y.height < 1024 }
+        ensures value { Returns result (spec.judged self.now comparison point first x y) }
+        ensures height { IfOk result (λ v. v.height ≡ max x.height y.height + 1) }
+    {
+        let second = self.based(point, y)?;
+        Ok(unmarked_over(truth(holds(comparison, first, second)), x, y))
+    }
+
+    // The next multiple of an alignment from a value on.
+    #[tactic(auto, unfolding(wild_value_spec::specs::Value::raised))]
+    pub(crate) fn raised(&self, align: Value, x: Value) -> Result<Value, Fault>
+        requires nonzero { 0 < align.number }
+        requires align_height { align.height < 1024 }
+        requires value_height { x.height < 1024 }
+        ensures value { Returns result (spec.raised self.now align x) }
+        ensures height { IfOk result (λ v. v.height ≡ max align.height x.height + 1) }
+    {
+        let number = self.multiple_from(x.number, align.number)?;
+        Ok(over_both(number, align, x))
+    }
+}
