@@ -28,81 +28,167 @@ impl<T: Drop> From<AllocFailed<T>> for NoMemory {
 #[derive(Debug, Drop, PartialEq, Eq)]
 pub enum Fault {
     /// The script has no tree. The position is at most its length.
-    Syntax { position: usize },
+    Syntax {
+        position: usize,
+    },
     /// The script has no tree. A comment begins at the position and does not end.
-    UnclosedComment { position: usize },
+    UnclosedComment {
+        position: usize,
+    },
     /// The script has no tree. A sort word stands at the position, directly behind the bracket of another.
-    UnsupportedNestedSort { position: usize },
+    UnsupportedNestedSort {
+        position: usize,
+    },
     /// The script has no tree within the limit of depth.
-    TooDeep { position: usize },
+    TooDeep {
+        position: usize,
+    },
     /// The alignment of this row is no power of two up to 2 ^ 21.
-    BadRow { row: usize },
+    BadRow {
+        row: usize,
+    },
     /// This symbol of the table names no row, or an offset above the size of its row.
-    BadSymbolRow { symbol: u64 },
+    BadSymbolRow {
+        symbol: u64,
+    },
     /// `/DISCARD/`, opened there, holds a statement that is no matcher, or has a clause.
-    BadDiscard { statement: usize },
+    BadDiscard {
+        statement: usize,
+    },
     /// The pattern of this matcher is empty, or cannot be read.
-    BadPattern { statement: usize, name: Name },
+    BadPattern {
+        statement: usize,
+        name: Name,
+    },
     /// The name of the section is empty.
-    BadName { statement: usize },
+    BadName {
+        statement: usize,
+    },
     /// The section asks for an alignment that is no power of two up to 2 ^ 21.
-    BadAlignment { statement: usize, value: u64 },
+    BadAlignment {
+        statement: usize,
+        value: u64,
+    },
     /// The fill of the section is above 2 ^ 32 - 1.
-    BadFill { statement: usize, value: u64 },
+    BadFill {
+        statement: usize,
+        value: u64,
+    },
     /// The type or the flags of this program header are above 2 ^ 32 - 1.
-    BadHeader { index: u64, value: u64 },
+    BadHeader {
+        index: u64,
+        value: u64,
+    },
     /// What must be a constant is none.
-    NotConstant { statement: usize },
+    NotConstant {
+        statement: usize,
+    },
     /// Two sections have this name.
-    DuplicateSection { name: Name },
+    DuplicateSection {
+        name: Name,
+    },
     /// Two definitions have this name.
-    DuplicateSymbol { name: Name },
+    DuplicateSymbol {
+        name: Name,
+    },
     /// Two memory regions, or two program headers, have this name.
-    DuplicateName { name: Name },
+    DuplicateName {
+        name: Name,
+    },
     /// The output format is unknown, or of another architecture.
-    OutputFormat { name: Name },
+    OutputFormat {
+        name: Name,
+    },
     /// No memory region has this name.
-    UnknownRegion { name: Name },
+    UnknownRegion {
+        name: Name,
+    },
     /// No program header has this name.
-    UnknownPhdr { name: Name },
+    UnknownPhdr {
+        name: Name,
+    },
     /// So many section ids stand, and one more would not fit.
-    TooManySections { count: u64 },
+    TooManySections {
+        count: u64,
+    },
     /// So many segments stand, and one more is needed.
-    TooManySegments { segments: u64 },
+    TooManySegments {
+        segments: u64,
+    },
     /// An evaluated divisor is 0.
-    DivisionByZero { statement: usize },
+    DivisionByZero {
+        statement: usize,
+    },
     /// The same, of a remainder.
-    ModuloByZero { statement: usize },
+    ModuloByZero {
+        statement: usize,
+    },
     /// An evaluated alignment is 0.
-    AlignZero { statement: usize },
+    AlignZero {
+        statement: usize,
+    },
     /// No section has this name.
-    UnknownSection { name: Name },
+    UnknownSection {
+        name: Name,
+    },
     /// No symbol of this name is defined.
-    UnknownSymbol { name: Name },
+    UnknownSymbol {
+        name: Name,
+    },
     /// A placement asks for what is laid out behind it.
-    NotLaidOut { statement: usize, name: Name },
+    NotLaidOut {
+        statement: usize,
+        name: Name,
+    },
     /// The value of this symbol asks for itself.
-    SymbolCycle { name: Name },
+    SymbolCycle {
+        name: Name,
+    },
     /// The evaluation passes its limit of height.
-    DeepValue { statement: usize },
+    DeepValue {
+        statement: usize,
+    },
     /// The address of this symbol is below the start of the section that holds it.
-    BeforeSection { name: Name },
+    BeforeSection {
+        name: Name,
+    },
     /// The location counter would go back in a section.
-    MovesBack { statement: usize, from: u64, to: u64 },
+    MovesBack {
+        statement: usize,
+        from: u64,
+        to: u64,
+    },
     /// The two sections share an address.
-    Overlap { first: Name, second: Name },
+    Overlap {
+        first: Name,
+        second: Name,
+    },
     /// The section is not inside its memory region.
-    RegionFull { region: Name, section: Name },
+    RegionFull {
+        region: Name,
+        section: Name,
+    },
     /// The sum of the two numbers passes 2 ^ 64 - 1.
-    Overflow { left: u64, right: u64 },
+    Overflow {
+        left: u64,
+        right: u64,
+    },
     /// The next multiple of `align` from `value` on passes 2 ^ 64 - 1.
-    AlignOverflow { value: u64, align: u64 },
+    AlignOverflow {
+        value: u64,
+        align: u64,
+    },
     /// The condition of an ASSERT does not hold. The line is that of its bracket, from 1.
-    AssertFailed { line: u64, message: Name },
+    AssertFailed {
+        line: u64,
+        message: Name,
+    },
     /// Memory ran out.
     NoMemory,
     /// What this row or statement asks for is not built yet.
-    Unsupported { index: usize },
+    Unsupported {
+        index: usize,
+    },
 }
 
 impl Fault {

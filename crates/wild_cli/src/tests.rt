@@ -290,7 +290,8 @@ fn planned(alloc: Global, script: &[u8], table: &[u8]) -> Result<(u8, Tray, Tray
     Ok((answer, out, err))
 }
 
-const COUNTED: &[u8] = b"section .a 0x0000000000000010 0x0000000000000010 0x0000000000000004 4 A - - -
+const COUNTED: &[u8] =
+    b"section .a 0x0000000000000010 0x0000000000000010 0x0000000000000004 4 A - - -
 section .b 0x0000000000000008 0x0000000000000008 0x0000000000000002 1 A - - -
 section .c 0x0000000000000020 0x0000000000000020 0x0000000000000000 1 A - - -
 input 0 0x0000000000000010 .a f.o .a
@@ -321,7 +322,12 @@ fn counters(rt: HostRuntime) -> Result<(), Fail> {
             0,
             LAST,
         ),
-        (b"SECTIONS { . = 1; } SECTIONS { . = . + 1; }", b"", 0, b"location 0 0x0000000000000001\nlocation 1 0x0000000000000002\n"),
+        (
+            b"SECTIONS { . = 1; } SECTIONS { . = . + 1; }",
+            b"",
+            0,
+            b"location 0 0x0000000000000001\nlocation 1 0x0000000000000002\n",
+        ),
     ];
     for (script, table, status, text) in cases {
         let (answer, out, err) = planned(alloc, script, table)?;
@@ -351,11 +357,31 @@ fn counter_faults(rt: HostRuntime) -> Result<(), Fail> {
             b"section,f.o,.a,2,1,A\n",
             b"fault 34 Overflow left=18446744073709551614 right=2\n",
         ),
-        (b"SECTIONS { . = ALIGN(0); }", b"", b"fault 24 AlignZero statement=0\n"),
-        (b"SECTIONS { . = 1 / 0; }", b"", b"fault 22 DivisionByZero statement=0\n"),
-        (b"SECTIONS { .a : { } . %= 0; }", b"", b"fault 1 Syntax position=22\n"),
-        (b"SECTIONS { .a : { } . = 1 % 0; }", b"", b"fault 23 ModuloByZero statement=2\n"),
-        (b"SECTIONS { .a : { } . = x; .a : { } }", b"", b"fault 38 Unsupported index=2\n"),
+        (
+            b"SECTIONS { . = ALIGN(0); }",
+            b"",
+            b"fault 24 AlignZero statement=0\n",
+        ),
+        (
+            b"SECTIONS { . = 1 / 0; }",
+            b"",
+            b"fault 22 DivisionByZero statement=0\n",
+        ),
+        (
+            b"SECTIONS { .a : { } . %= 0; }",
+            b"",
+            b"fault 1 Syntax position=22\n",
+        ),
+        (
+            b"SECTIONS { .a : { } . = 1 % 0; }",
+            b"",
+            b"fault 23 ModuloByZero statement=2\n",
+        ),
+        (
+            b"SECTIONS { .a : { } . = x; .a : { } }",
+            b"",
+            b"fault 38 Unsupported index=2\n",
+        ),
         (
             b"SECTIONS { . = 1 ? 2 : SIZEOF(.a); }",
             b"",

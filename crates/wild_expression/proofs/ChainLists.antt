@@ -15,10 +15,11 @@ module _ (level : Level) (b : Bytes) (limit : ℕ) where
   unfolding step step_of room
   of_step x i y m e h =
       let at_room = h.second.first in
-      let right = h.second.second in
-      (record { operator = h.value; operand = right.value },
-       record { more = e; middle = h.middle; operator = h.first; room = at_room.deep; operand = subst (λ (n : ℕ). inner_value (operand level) b limit n right.value m) at_room.end (subst (λ (n : ℕ). inner_value (operand level) b limit h.second.middle right.value n) (sym right.second.end) right.first) },
-       right.second.value)
+      let right = h.second.second in (
+        record { operator = h.value; operand = right.value },
+        record { more = e; middle = h.middle; operator = h.first; room = at_room.deep; operand = subst (λ (n : ℕ). inner_value (operand level) b limit n right.value m) at_room.end (subst (λ (n : ℕ). inner_value (operand level) b limit h.second.middle right.value n) (sym right.second.end) right.first) },
+        right.second.value,
+      )
 
   to_step : (x : Measured) (i : ℕ) (link : Link) (m : ℕ) → Stands level b limit x.depth i link m → step level x b limit i (joined link.operator x link.operand) m
   unfolding step step_of room

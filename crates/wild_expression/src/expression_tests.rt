@@ -38,7 +38,10 @@ fn ends(rt: HostRuntime) -> Result<(), Fail> {
         (b"SEGMENT_START(\"\", 0x80)", syntax(15)),
         (b"ASSERT ( /* c */ 1 # d\n, \"m\" ) /* e */ + 2", Ok(42)),
         (b"ASSERT(1 /* c */, m)", syntax(10)),
-        (b"ASSERT(1, m /* c", Err(Fault::UnclosedComment { position: 12 })),
+        (
+            b"ASSERT(1, m /* c",
+            Err(Fault::UnclosedComment { position: 12 }),
+        ),
         (b"foo(1)", syntax(3)),
         (b"", syntax(0)),
         (b"1 /* c */", syntax(3)),
@@ -129,8 +132,14 @@ fn depths(rt: HostRuntime) -> Result<(), Fail> {
 fn mebibytes(rt: HostRuntime) -> Result<(), Fail> {
     let alloc = rt.alloc();
     let brackets = around(alloc, b"(", b"", b"", 1_048_576)?;
-    assert_eq!(rt; end(alloc, brackets.as_slice()), Err(Fault::TooDeep { position: 257 }));
+    assert_eq!(rt;
+        end(alloc, brackets.as_slice()),
+        Err(Fault::TooDeep { position: 257 })
+    );
     let sums = around(alloc, b"1+", b"", b"", 524_288)?;
-    assert_eq!(rt; end(alloc, sums.as_slice()), Err(Fault::TooDeep { position: 514 }));
+    assert_eq!(rt;
+        end(alloc, sums.as_slice()),
+        Err(Fault::TooDeep { position: 514 })
+    );
     Ok(())
 }

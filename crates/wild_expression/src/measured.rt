@@ -3,12 +3,11 @@
 ghost use Rattle.std.specs.Prelude.{◌≡◌, ◌<◌, ◌+◌, ◌^◌, IfOk};
 ghost use Rattle.wild_expression.specs.Grammar as spec;
 
-use wild_expression_words::{Operator, Sign, node, signed_node};
-use wild_expression_tree::{AssertCommand, Expression};
-use wild_expression_words::{Extreme, Question};
 use sqlite_items::Boxed;
 use std::alloc::{AllocError, Global};
 use wild_base::{Name, SegmentName};
+use wild_expression_tree::{AssertCommand, Expression};
+use wild_expression_words::{Extreme, Operator, Question, Sign, node, signed_node};
 
 /// An expression, and its depth: how many brackets, signs, operators and calls stand in one another in it.
 #[derive(Debug, Drop)]

@@ -5,11 +5,11 @@ ghost use Rattle.wild_reading.specs.Place.{ahead};
 ghost use Rattle.wild_reading.specs.Only.{Answers};
 ghost use Rattle.wild_expression.specs.Parts as spec;
 
-use wild_expression_words::Level;
 use crate::values::value;
 use sqlite_items::Boxed;
 use std::alloc::Global;
 use wild_expression_tree::{AssertCommand, Expression};
+use wild_expression_words::Level;
 use wild_reading::{Cursor, Stop};
 
 /// Reads an expression and the white behind it.

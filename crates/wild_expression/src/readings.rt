@@ -4,11 +4,11 @@ ghost use Rattle.std.specs.Prelude.{◌≡◌, ◌≤◌, ◌⊎◌, length, IfO
 ghost use Rattle.wild_base.specs.declared.fault.Fault.TheVariants.{NoMemory};
 ghost use Rattle.wild_expression.specs.Readings.{plain_fault, IsExpression, IsRefusal};
 
-use wild_expression_words::Level;
 use crate::values::value;
 use std::alloc::Global;
 use wild_base::Fault;
 use wild_expression_tree::Expression;
+use wild_expression_words::Level;
 use wild_reading::{Cursor, Stop};
 
 /// How deep an expression may be.

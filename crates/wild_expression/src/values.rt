@@ -8,15 +8,15 @@ ghost use Rattle.wild_expression.specs.Grammar.{IsCovered};
 ghost use Rattle.wild_expression_words.specs.Operators.{is_layer};
 ghost use Rattle.wild_expression_words.specs.Words.{byte_count};
 
-use wild_expression_words::Piece;
 use crate::measured::{
     Measured, align_counter, align_value, ask, assert_that, choose, join, pair_up, put_sign, start,
 };
-use wild_expression_words::{Level, ends, is_signed, operand, pass_operator, pass_sign};
-use wild_expression_words::quoted_name;
-use wild_expression_words::{Call, Extreme, Head, Question, name, read_head};
 use std::alloc::Global;
 use wild_base::Name;
+use wild_expression_words::{
+    Call, Extreme, Head, Level, Piece, Question, ends, is_signed, name, operand, pass_operator,
+    pass_sign, quoted_name, read_head,
+};
 use wild_reading::{Cursor, Stop};
 
 #[tactic(auto, using(wild_reading::proofs::Readers::reading), unfolding(crate::specs::Grammar::close))]

@@ -9,9 +9,8 @@ ghost use Rattle.wild_reading.specs.Reader.{Takes};
 ghost use Rattle.wild_reading.specs.Only.{Answers};
 ghost use Rattle.wild_expression_words.specs.Literal as spec;
 
-use wild_reading::begins;
 use crate::identifier::goes_on;
-use wild_reading::{Cursor, Stop};
+use wild_reading::{Cursor, Stop, begins};
 
 /// Where the digits of a literal stand, and their radix.
 #[derive(Clone, Copy)]

@@ -6,8 +6,8 @@ ghost use Rattle.wild_reading.specs.Only.{Answers};
 ghost use Rattle.wild_reading.specs.Place.{ahead, IsMarked};
 ghost use Rattle.wild_expression_words.specs.Operators as spec;
 
-use wild_expression_tree::Expression;
 use sqlite_items::Boxed;
+use wild_expression_tree::Expression;
 use wild_reading::{Cursor, Stop};
 
 /// The levels at which operators bind, the loosest first.

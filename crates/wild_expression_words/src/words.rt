@@ -7,13 +7,13 @@ ghost use Rattle.wild_reading.specs.Only.{Answers};
 ghost use Rattle.wild_expression_words.specs.Words as spec;
 ghost use Rattle.wild_expression_words.specs.Identifier as identifiers;
 
-use crate::piece::Piece;
 use crate::identifier::{begins_digit, identifier};
 use crate::literal::literal;
-use wild_expression_tree::Expression;
+use crate::piece::Piece;
 use sqlite_items::Boxed;
 use std::alloc::Global;
 use wild_base::{Name, NoMemory};
+use wild_expression_tree::Expression;
 use wild_reading::{Cursor, Stop};
 
 /// The calls over one name.

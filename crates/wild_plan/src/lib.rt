@@ -16,6 +16,7 @@ mod walk;
 pub use placement::Plan;
 pub use planning::plan;
 pub use wild_plan_spec::{
-    Chunk, InputRow, InputRows, InputTable, Names, PlacedInput, PlacedLocation, PlacedSection, RowNames,
+    Chunk, InputRow, InputRows, InputTable, Names, PlacedInput, PlacedLocation, PlacedSection,
+    RowNames,
 };
 pub use wild_plan_text::{address_text, fault_text, name_text};

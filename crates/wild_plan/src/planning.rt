@@ -21,7 +21,9 @@ use crate::walk::{Given, lay_out};
 use sqlite_items::Items;
 use std::alloc::Global;
 use wild_base::{Fault, Name, NoMemory};
-use wild_plan_spec::{Chunk, InputRow, InputTable, PlacedInput, PlacedLocation, PlacedSection, RowNames};
+use wild_plan_spec::{
+    Chunk, InputRow, InputTable, PlacedInput, PlacedLocation, PlacedSection, RowNames,
+};
 use wild_script::{LinkerScript, Section};
 
 /// The sections of a script whose checks hold, and the chunk of each row.
@@ -75,10 +77,7 @@ fn push_name<'a>(names: &mut Items<&'a Name>, section: &'a Section) -> Result<()
     Ok(())
 }
 
-fn section_names<'a>(
-    alloc: Global,
-    sections: &[&'a Section],
-) -> Result<Items<&'a Name>, NoMemory>
+fn section_names<'a>(alloc: Global, sections: &[&'a Section]) -> Result<Items<&'a Name>, NoMemory>
     ensures { IfOk result (λ names. pointed names ≡ names_of (pointed sections.now)) }
 {
     let mut names = Items::new(alloc);
@@ -89,11 +88,7 @@ fn section_names<'a>(
 }
 
 /// Lays out the places of these sections, and rows of which each has a chunk.
-fn list_rows(
-    alloc: Global,
-    checked: &Checked<'_>,
-    rows: &[InputRow],
-) -> Result<Lists, Fault>
+fn list_rows(alloc: Global, checked: &Checked<'_>, rows: &[InputRow]) -> Result<Lists, Fault>
     requires { length checked.now.chunks ≡ length rows.now }
     ensures laid_out { IfOk result (IsLaidOut (pointed checked.now.sections) (shown checked.now.places) rows.now checked.now.chunks) }
     ensures refused { IfErr result (λ f. (f ≡ fault.NoMemory) ⊎ IsRefused (pointed checked.now.sections) (shown checked.now.places) rows.now checked.now.chunks f) }

@@ -81,12 +81,7 @@ fn section_name(alloc: Global, names: &[&Name], section: usize) -> Result<Name, 
 }
 
 /// The fault of two sections that share an address.
-fn overlap(
-    alloc: Global,
-    names: &[&Name],
-    first: usize,
-    second: usize,
-) -> Result<Fault, NoMemory>
+fn overlap(alloc: Global, names: &[&Name], first: usize, second: usize) -> Result<Fault, NoMemory>
     ensures { IfOk result (λ f. f ≡ fault.Overlap ((setting_of names.now).section_name first) ((setting_of names.now).section_name second)) }
 {
     Ok(Fault::Overlap {

@@ -125,7 +125,11 @@ fn push_fields(out: &mut String, fault: &Fault) -> Result<(), AllocError>
         Fault::SymbolCycle { name } => push_named(out, "name", name),
         Fault::DeepValue { statement } => push_number(out, "statement", *statement as u64),
         Fault::BeforeSection { name } => push_named(out, "name", name),
-        Fault::MovesBack { statement, from, to } => {
+        Fault::MovesBack {
+            statement,
+            from,
+            to,
+        } => {
             push_number(out, "statement", *statement as u64)?;
             push_number(out, "from", *from)?;
             push_number(out, "to", *to)

@@ -149,11 +149,19 @@ fn gaps(rt: HostRuntime) -> Result<(), Fail> {
         (b" \t# line\n /* c */ x", 0, Ok(18)),
         (b"/*/x", 0, Ok(3)),
         (b"x # line", 1, Err(Fault::Syntax { position: 3 })),
-        (b"x # l\n /* c", 1, Err(Fault::UnclosedComment { position: 7 })),
+        (
+            b"x # l\n /* c",
+            1,
+            Err(Fault::UnclosedComment { position: 7 }),
+        ),
         (b"x", 1, Ok(1)),
     ];
     for (text, position, expected) in cases {
-        assert_eq!(rt; skip_comments_and_whitespace(text, position), expected, "{text:?}");
+        assert_eq!(rt;
+            skip_comments_and_whitespace(text, position),
+            expected,
+            "{text:?}"
+        );
     }
     Ok(())
 }
