@@ -5,7 +5,7 @@ use Rattle.wild_base.specs.declared.fault.Fault.{Fault}
 use Rattle.wild_base.specs.declared.fault.Fault.TheVariants.{Syntax, UnclosedComment}
 use Rattle.wild_reading.specs.Place.{Bytes}
 use Rattle.wild_reading.specs.Bytes.{begins, past_white}
-use Rattle.wild_reading.specs.Reader.{Passes, Choice, yes, no, Until, none, more}
+use Rattle.wild_reading.specs.Reader.{yes, no, Until, none, more}
 use Rattle.wild_reading.specs.Lex.{after_white, white, after_byte, byte, after_line, rest_of_line, line, after_comment, comment, line_or_comment, ends_gap, stretch, stretches, gap}
 use Rattle.wild_reading.specs.Gap.{or_fault, stretch_end, Follows, ends, stays, goes, IsGapEnd}
 
