@@ -1,10 +1,9 @@
-use crate::{ConstFault, Reader, Table, evaluate_const};
+use crate::{ConstFault, Point, Reader, Table, evaluate_const};
 use sqlite_items::Boxed;
 use std::alloc::Global;
 use std::test::Fail;
 use wild_base::{Name, NoMemory};
 use wild_expression_tree::Expression;
-use wild_value_spec::Point;
 
 type Tree = Boxed<Expression>;
 
