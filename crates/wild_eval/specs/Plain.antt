@@ -27,17 +27,8 @@ dot_of r = spec.dot_of (setting r) r.statement (known r)
 abbrev pub start_of : Reader → ℕ → Result ℕ Fault
 start_of r = spec.start_of (setting r) r.statement (known r)
 
-abbrev pub sum_of : Reader → ℕ → ℕ → Result ℕ Fault
-sum_of r = spec.sum_of (setting r) r.statement (known r)
-
-abbrev pub multiple_from : Reader → ℕ → ℕ → Result ℕ Fault
-multiple_from r = spec.multiple_from (setting r) r.statement (known r)
-
 abbrev pub judged : Reader → Comparison → Point → ℕ → Value → Value → Result Value Fault
 judged r = spec.judged (setting r) r.statement (known r)
-
-abbrev pub raised : Reader → Value → Value → Result Value Fault
-raised r = spec.raised (setting r) r.statement (known r)
 
 abbrev pub based : Reader → Point → Value → Result ℕ Fault
 based r = spec.based (setting r) r.statement (known r)

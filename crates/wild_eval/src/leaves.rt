@@ -3,6 +3,7 @@
 ghost use Rattle.std.specs.Prelude.{◌≡◌, ◌<◌, ◌≤◌, ◌+◌, max, IfOk, Ok};
 ghost use Rattle.wild_eval.specs.Plain as spec;
 ghost use Rattle.wild_value_spec.specs.Answer.{Returns};
+ghost use Rattle.wild_value_spec.specs.Value.{multiple_from, raised, sum_of};
 
 use crate::arithmetic::{holds, truth};
 use crate::marks::{absolutely, bare, over_both, relatively, unmarked_over};
@@ -48,7 +49,7 @@ impl Reader<'_> {
 
     #[tactic(auto, unfolding(wild_value_spec::specs::Value::sum_of))]
     fn sum(&self, left: u64, right: u64) -> Result<u64, Fault>
-        ensures { Returns result (spec.sum_of self.now left right) }
+        ensures { Returns result (sum_of left right) }
     {
         match left.checked_add(right) {
             Some(sum) => Ok(sum),
@@ -59,7 +60,7 @@ impl Reader<'_> {
     #[tactic(auto, unfolding(wild_value_spec::specs::Value::multiple_from))]
     fn multiple_from(&self, value: u64, align: u64) -> Result<u64, Fault>
         requires { 0 < align }
-        ensures { Returns result (spec.multiple_from self.now value align) }
+        ensures { Returns result (multiple_from value align) }
     {
         match value.checked_next_multiple_of(align) {
             Some(multiple) => Ok(multiple),
@@ -133,7 +134,7 @@ impl Reader<'_> {
         requires nonzero { 0 < align.number }
         requires align_height { align.height < 1024 }
         requires value_height { x.height < 1024 }
-        ensures value { Returns result (spec.raised self.now align x) }
+        ensures value { Returns result (raised align x) }
         ensures height { IfOk result (λ v. v.height ≡ max align.height x.height + 1) }
     {
         let number = self.multiple_from(x.number, align.number)?;

@@ -1,4 +1,4 @@
-//! Values of expressions.
+//! Values of expressions over what is known of a layout, and the numbers of constants.
 #![tactic(auto)]
 
 mod arithmetic;
@@ -12,6 +12,7 @@ mod table;
 pub use constant::{ConstFault, evaluate_const};
 pub use plain::Reader;
 pub use table::{Numbers, Table};
+pub use wild_value_spec::{Point, Value};
 
 #[cfg(test)]
 mod tests;

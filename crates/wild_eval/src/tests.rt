@@ -1,10 +1,9 @@
-use crate::{ConstFault, Reader, Table, evaluate_const};
+use crate::{ConstFault, Point, Reader, Table, evaluate_const};
 use sqlite_items::Boxed;
 use std::alloc::Global;
 use std::test::Fail;
-use wild_base::{Fault, Name, NoMemory};
+use wild_base::{Name, NoMemory};
 use wild_expression_tree::Expression;
-use wild_value_spec::Point;
 
 type Tree = Boxed<Expression>;
 
@@ -38,16 +37,21 @@ fn equal(alloc: Global, left: Tree, right: Tree) -> Result<Tree, NoMemory> {
     Ok(Boxed::new(alloc, Expression::Equal(left, right))?)
 }
 
-fn both_bits(alloc: Global, left: Tree, right: Tree) -> Result<Tree, NoMemory> {
+fn both_bits(alloc: Global, left: u64, right: u64) -> Result<Tree, NoMemory> {
+    let (left, right) = (number(alloc, left)?, number(alloc, right)?);
     Ok(Boxed::new(alloc, Expression::BitwiseAnd(left, right))?)
 }
 
-fn conjunction(alloc: Global, left: Tree, right: Tree) -> Result<Tree, NoMemory> {
+// `n && .`
+fn and_counter(alloc: Global, left: u64) -> Result<Tree, NoMemory> {
+    let (left, right) = (number(alloc, left)?, counter(alloc)?);
     Ok(Boxed::new(alloc, Expression::LogicalAnd(left, right))?)
 }
 
-fn choice(alloc: Global, condition: u64, first: Tree, second: Tree) -> Result<Tree, NoMemory> {
+// `n ? 8 : .`
+fn choice(alloc: Global, condition: u64) -> Result<Tree, NoMemory> {
     let condition = number(alloc, condition)?;
+    let (first, second) = (number(alloc, 8)?, counter(alloc)?);
     Ok(Boxed::new(alloc, Expression::Ternary(condition, first, second))?)
 }
 
@@ -56,34 +60,46 @@ fn align(alloc: Global, alignment: u64) -> Result<Tree, NoMemory> {
     Ok(Boxed::new(alloc, Expression::Align(alignment, None))?)
 }
 
-fn align_of(alloc: Global, alignment: u64, value: Tree) -> Result<Tree, NoMemory> {
-    let alignment = number(alloc, alignment)?;
+// `ALIGN(0 - 1, 8)`
+fn align_high(alloc: Global) -> Result<Tree, NoMemory> {
+    let (alignment, value) = (number(alloc, 8)?, difference(alloc, 0, 1)?);
     Ok(Boxed::new(alloc, Expression::Align(alignment, Some(value)))?)
 }
 
 // The remainder of -7 and 2.
 fn negative_remainder(alloc: Global) -> Result<Tree, NoMemory> {
-    remainder(alloc, difference(alloc, 0, 7)?, number(alloc, 2)?)
+    let (left, right) = (difference(alloc, 0, 7)?, number(alloc, 2)?);
+    remainder(alloc, left, right)
+}
+
+fn remainder_of_zero(alloc: Global) -> Result<Tree, NoMemory> {
+    let (left, right) = (number(alloc, 1)?, number(alloc, 0)?);
+    remainder(alloc, left, right)
 }
 
 // `. / 0`
 fn counter_by_zero(alloc: Global) -> Result<Tree, NoMemory> {
-    quotient(alloc, counter(alloc)?, number(alloc, 0)?)
+    let (left, right) = (counter(alloc)?, number(alloc, 0)?);
+    quotient(alloc, left, right)
 }
 
 // The least signed number divided by -1.
 fn least_by_minus_one(alloc: Global) -> Result<Tree, NoMemory> {
-    quotient(
-        alloc,
-        number(alloc, 0x8000000000000000)?,
-        difference(alloc, 0, 1)?,
-    )
+    let least = number(alloc, 0x8000000000000000)?;
+    let minus_one = difference(alloc, 0, 1)?;
+    quotient(alloc, least, minus_one)
 }
 
 // `2 & 2 == 2`, which compares last.
 fn bits_compared(alloc: Global) -> Result<Tree, NoMemory> {
-    let bits = both_bits(alloc, number(alloc, 2)?, number(alloc, 2)?)?;
-    equal(alloc, bits, number(alloc, 2)?)
+    let (left, right) = (both_bits(alloc, 2, 2)?, number(alloc, 2)?);
+    equal(alloc, left, right)
+}
+
+// `. == 3`
+fn counter_compared(alloc: Global) -> Result<Tree, NoMemory> {
+    let (left, right) = (counter(alloc)?, number(alloc, 3)?);
+    equal(alloc, left, right)
 }
 
 fn sample(alloc: Global, index: usize) -> Result<Tree, NoMemory> {
@@ -93,35 +109,37 @@ fn sample(alloc: Global, index: usize) -> Result<Tree, NoMemory> {
         2 => least_by_minus_one(alloc),
         3 => bits_compared(alloc),
         4 => negative_remainder(alloc),
-        5 => conjunction(alloc, number(alloc, 0)?, counter(alloc)?),
-        6 => choice(alloc, 5, number(alloc, 8)?, counter(alloc)?),
-        7 => choice(alloc, 0, number(alloc, 8)?, counter(alloc)?),
+        5 => and_counter(alloc, 0),
+        6 => choice(alloc, 5),
+        7 => choice(alloc, 0),
         8 => counter_by_zero(alloc),
-        9 => remainder(alloc, number(alloc, 1)?, number(alloc, 0)?),
-        _ => align(alloc, 8),
+        9 => remainder_of_zero(alloc),
+        10 => counter(alloc),
+        11 => number(alloc, 5),
+        12 => align(alloc, 0),
+        13 => align(alloc, 8),
+        14 => align_high(alloc),
+        _ => counter_compared(alloc),
     }
 }
 
 #[test]
 fn constants(rt: HostRuntime) -> Result<(), Fail> {
     for (i, wanted) in [
-        Ok(1),
-        Ok(18446744073709551615),
-        Ok(0x8000000000000000),
-        Ok(1),
-        Ok(18446744073709551615),
-        Ok(0),
-        Ok(8),
-        Err(ConstFault::NotConstant),
-        Err(ConstFault::DivisionByZero),
-        Err(ConstFault::ModuloByZero),
-        Err(ConstFault::NotConstant),
-    ]
-    .iter()
-    .enumerate()
-    {
+        (0, Ok(1)),
+        (1, Ok(18446744073709551615)),
+        (2, Ok(0x8000000000000000)),
+        (3, Ok(1)),
+        (4, Ok(18446744073709551615)),
+        (5, Ok(0)),
+        (6, Ok(8)),
+        (7, Err(ConstFault::NotConstant)),
+        (8, Err(ConstFault::DivisionByZero)),
+        (9, Err(ConstFault::ModuloByZero)),
+        (13, Err(ConstFault::NotConstant)),
+    ] {
         let tree = sample(rt.alloc(), i)?;
-        assert_eq!(rt; evaluate_const(tree.get()), *wanted, "{i}");
+        assert_eq!(rt; evaluate_const(tree.get()), wanted, "{i}");
     }
     Ok(())
 }
@@ -135,23 +153,9 @@ fn learn(alloc: Global) -> Result<Table, NoMemory> {
     Ok(table)
 }
 
-const INSIDE: Point = Point {
-    place: 1,
-    section: Some(0),
-};
-
-const OUTSIDE: Point = Point {
-    place: 2,
-    section: None,
-};
-
-const NOWHERE: Point = Point {
-    place: 3,
-    section: Some(0),
-};
-
-// What statement 7 reads at a point.
-fn full(alloc: Global, tree: &Tree, point: Point) -> Result<u64, Fault> {
+// What a statement reads at a place, or the number of its fault.
+fn read(alloc: Global, index: usize, point: Point) -> Result<Result<u64, u32>, NoMemory> {
+    let tree = sample(alloc, index)?;
     let table = learn(alloc)?;
     let name = Name::new(alloc, b".a")?;
     let reader = Reader {
@@ -160,50 +164,35 @@ fn full(alloc: Global, tree: &Tree, point: Point) -> Result<u64, Fault> {
         table: &table,
         statement: 7,
     };
-    reader.full(tree.get(), point)
+    match reader.full(tree.get(), point) {
+        Ok(number) => Ok(Ok(number)),
+        Err(fault) => Ok(Err(fault.number())),
+    }
 }
 
 #[test]
-fn counters(rt: HostRuntime) -> Result<(), Fail> {
-    let alloc = rt.alloc();
-    let dot = counter(alloc)?;
-    assert_eq!(rt; full(alloc, &dot, OUTSIDE), Ok(0x2001));
-    assert_eq!(rt; full(alloc, &dot, INSIDE), Ok(0x1003));
-    assert_eq!(rt; full(alloc, &number(alloc, 5)?, INSIDE), Ok(0x1005));
-    let name = Name::new(alloc, b".")?;
-    assert_eq!(rt;
-        full(alloc, &dot, NOWHERE),
-        Err(Fault::NotLaidOut { statement: 7, name })
-    );
-    Ok(())
-}
-
-#[test]
-fn alignments(rt: HostRuntime) -> Result<(), Fail> {
-    let alloc = rt.alloc();
-    assert_eq!(rt;
-        full(alloc, &align(alloc, 0)?, OUTSIDE),
-        Err(Fault::AlignZero { statement: 7 })
-    );
-    assert_eq!(rt; full(alloc, &align(alloc, 8)?, OUTSIDE), Ok(0x2008));
-    assert_eq!(rt; full(alloc, &align(alloc, 8)?, INSIDE), Ok(0x1008));
-    let high = align_of(alloc, 8, difference(alloc, 0, 1)?)?;
-    assert_eq!(rt;
-        full(alloc, &high, OUTSIDE),
-        Err(Fault::AlignOverflow {
-            value: u64::MAX,
-            align: 8
-        })
-    );
-    Ok(())
-}
-
-// The full values of both sides are compared: inside a section, 3 stands for 0x1003.
-#[test]
-fn comparisons(rt: HostRuntime) -> Result<(), Fail> {
-    let alloc = rt.alloc();
-    let same = equal(alloc, counter(alloc)?, number(alloc, 3)?)?;
-    assert_eq!(rt; full(alloc, &same, INSIDE), Ok(0x1001));
-    assert_eq!(rt; full(alloc, &same, OUTSIDE), Ok(0));
+fn full_values(rt: HostRuntime) -> Result<(), Fail> {
+    for (i, place, section, wanted) in [
+        (10, 2, None, Ok(0x2001)),
+        (10, 1, Some(0), Ok(0x1003)),
+        (10, 3, Some(0), Err(27)),
+        (11, 2, None, Ok(5)),
+        (11, 1, Some(0), Ok(0x1005)),
+        (11, 1, Some(1), Err(27)),
+        (12, 2, None, Err(24)),
+        (13, 2, None, Ok(0x2008)),
+        (13, 1, Some(0), Ok(0x1008)),
+        (14, 2, None, Err(35)),
+        (15, 2, None, Ok(0)),
+        // Both sides stand for 0x1003, and the answer 1 for 0x1001.
+        (15, 1, Some(0), Ok(0x1001)),
+        (8, 3, None, Err(22)),
+        (9, 2, None, Err(23)),
+        (2, 2, None, Ok(0x8000000000000000)),
+        (7, 2, None, Ok(0x2001)),
+    ] {
+        let point = Point { place, section };
+        assert_eq!(rt; read(rt.alloc(), i, point)?, wanted, "{i} {place}");
+    }
     Ok(())
 }

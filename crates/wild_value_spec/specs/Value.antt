@@ -71,6 +71,21 @@ zero_divisor division.Modulo statement = ModuloByZero statement
 unfoldable pub chosen : ℕ → Expression → Expression → Expression
 chosen condition a b = if condition == 0 then b else a
 
+-- ---- numbers that may be refused
+
+-- the sum, up to 2 ^ 64 - 1
+unfoldable pub sum_of : ℕ → ℕ → Result ℕ Fault
+sum_of x y = if nat_lt (x + y) (2 ^ 64) then Ok (x + y) else Err (Overflow x y)
+
+-- the next multiple of an alignment from a number on, up to 2 ^ 64 - 1
+unfoldable pub multiple_from : ℕ → ℕ → Result ℕ Fault
+multiple_from x align =
+    if nat_lt (rounded_up align x) (2 ^ 64) then Ok (rounded_up align x) else Err (AlignOverflow x align)
+
+-- the next multiple of an alignment from a value on
+unfoldable pub raised : Value → Value → Result Value Fault
+raised align x = multiple_from x.number align.number >>= (λ n. Ok (over_both n align x))
+
 module _ (setting : Setting) (statement : ℕ) (known : Known) where
   -- ---- what is known
 
@@ -81,17 +96,6 @@ module _ (setting : Setting) (statement : ℕ) (known : Known) where
   -- the start of a section
   unfoldable pub start_of : ℕ → Result ℕ Fault
   start_of s = or_fault (known (Start s)) (NotLaidOut statement (setting.section_name s))
-
-  -- ---- numbers that may be refused
-
-  -- the sum, up to 2 ^ 64 - 1
-  unfoldable pub sum_of : ℕ → ℕ → Result ℕ Fault
-  sum_of x y = if nat_lt (x + y) (2 ^ 64) then Ok (x + y) else Err (Overflow x y)
-
-  -- the next multiple of an alignment from a number on, up to 2 ^ 64 - 1
-  unfoldable pub multiple_from : ℕ → ℕ → Result ℕ Fault
-  multiple_from x align =
-      if nat_lt (rounded_up align x) (2 ^ 64) then Ok (rounded_up align x) else Err (AlignOverflow x align)
 
   -- ---- full values
 
@@ -109,10 +113,6 @@ module _ (setting : Setting) (statement : ℕ) (known : Known) where
   -- a comparison, of which the left side is known with its full value
   unfoldable pub judged : Comparison → Point → ℕ → Value → Value → Result Value Fault
   judged o p left x y = based p y >>= (λ right. Ok (unmarked_over (truth (holds o left right)) x y))
-
-  -- the next multiple of an alignment from a value on
-  unfoldable pub raised : Value → Value → Result Value Fault
-  raised align x = multiple_from x.number align.number >>= (λ n. Ok (over_both n align x))
 
   -- `.`, the location counter, which inside a section counts from the section's start
   abbrev pub counter_in : Option ℕ → ℕ → Result Value Fault
