@@ -40,30 +40,46 @@ fn lines(alloc: Global) -> Result<Name, NoMemory> {
 }
 
 #[test]
-fn texts(rt: HostRuntime) -> Result<(), Fail> {
+fn plan_lines(rt: HostRuntime) -> Result<(), Fail> {
+    let text = lines(rt.alloc())?;
+    assert_eq!(rt; text.bytes(), LINES.as_bytes());
+    Ok(())
+}
+
+#[test]
+fn names_and_addresses(rt: HostRuntime) -> Result<(), Fail> {
     let alloc = rt.alloc();
-    let fault = Fault::Overflow { left: 8, right: 4 };
-    let moves_back = Fault::MovesBack {
+    let names: [(&[u8], &[u8]); 3] = [
+        (b".a ,\\", b".a\\x20\\x2c\\x5c"),
+        (b"", b"-"),
+        (b"-", b"\\x2d"),
+    ];
+    for (name, expected) in names {
+        let text = name_text(alloc, name)?;
+        assert_eq!(rt; text.bytes(), expected);
+    }
+    let text = address_text(alloc, 0x10)?;
+    assert_eq!(rt; text.bytes(), b"0x0000000000000010".as_slice());
+    Ok(())
+}
+
+#[test]
+fn faults(rt: HostRuntime) -> Result<(), Fail> {
+    let alloc = rt.alloc();
+    let text = fault_text(alloc, &Fault::Overflow { left: 8, right: 4 })?;
+    assert_eq!(rt;
+        text.bytes(),
+        b"fault 34 Overflow left=8 right=4".as_slice()
+    );
+    let fault = Fault::MovesBack {
         statement: 2,
         from: 8,
         to: 4,
     };
-    for (text, expected) in [
-        (name_text(alloc, b".a ,\\")?, ".a\\x20\\x2c\\x5c"),
-        (name_text(alloc, b"")?, "-"),
-        (name_text(alloc, b"-")?, "\\x2d"),
-        (address_text(alloc, 0x10)?, "0x0000000000000010"),
-        (
-            fault_text(alloc, &fault)?,
-            "fault 34 Overflow left=8 right=4",
-        ),
-        (
-            fault_text(alloc, &moves_back)?,
-            "fault 31 MovesBack statement=2 from=8 to=4",
-        ),
-        (lines(alloc)?, LINES),
-    ] {
-        assert_eq!(rt; text.bytes(), expected.as_bytes());
-    }
+    let text = fault_text(alloc, &fault)?;
+    assert_eq!(rt;
+        text.bytes(),
+        b"fault 31 MovesBack statement=2 from=8 to=4".as_slice()
+    );
     Ok(())
 }
