@@ -53,11 +53,11 @@ fn ends(rt: HostRuntime) -> Result<(), Fail> {
 }
 
 // The expression at the start as its derived text.
-fn shown(alloc: Global, text: &[u8]) -> Result<String, Fail> {
-    match parse_expression(alloc, text, 0) {
-        Ok((expression, _end)) => Ok(format!(in alloc; "{expression:?}")?),
-        Err(stop) => Ok(format!(in alloc; "{stop:?}")?),
-    }
+fn shown(alloc: Global, text: &[u8]) -> Result<String, AllocError> {
+    let Ok((expression, _end)) = parse_expression(alloc, text, 0) else {
+        return String::from_str(alloc, "none");
+    };
+    format!(in alloc; "{expression:?}")
 }
 
 #[test]
