@@ -3,10 +3,14 @@
 
 mod chunk;
 mod laws;
+mod options;
 mod placed;
 mod row;
 
 pub use chunk::{Chunk, ChunkRow};
 pub use laws::{one_fault, one_plan_fits, plan_or_fault, rows_have_one_order};
-pub use placed::{Names, PlacedInput, PlacedLocation, PlacedSection, RowNames};
-pub use row::{InputRow, InputRows, InputTable};
+pub use options::PlanOptions;
+pub use placed::{
+    Names, PlacedInput, PlacedLocation, PlacedSection, PlacedSymbol, RowNames,
+};
+pub use row::{InputRow, InputRows, InputTable, SymbolRow, SymbolRows};

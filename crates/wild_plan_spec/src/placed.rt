@@ -51,3 +51,14 @@ pub struct PlacedLocation {
     pub statement: usize,
     pub address: u64,
 }
+
+/// A symbol, and where it is.
+#[derive(Debug, Drop)]
+pub struct PlacedSymbol {
+    pub name: Name,
+    pub address: u64,
+    /// The index of the section in the plan that holds it.
+    pub section: Option<usize>,
+    /// Defined by PROVIDE_HIDDEN.
+    pub hidden: bool,
+}

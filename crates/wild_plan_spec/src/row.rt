@@ -16,8 +16,22 @@ pub struct InputRow {
 /// Rows in table order.
 pub type InputRows = Items<InputRow>;
 
-/// The input sections that are to be placed.
+/// A symbol of an input section.
+#[derive(Debug, Drop)]
+pub struct SymbolRow {
+    pub name: Name,
+    /// The number of its row, from 0 in table order.
+    pub row: usize,
+    /// From the start of its row, in bytes.
+    pub offset: u64,
+}
+
+/// Symbols in table order.
+pub type SymbolRows = Items<SymbolRow>;
+
+/// The input sections that are to be placed, and their symbols.
 #[derive(Debug, Drop)]
 pub struct InputTable {
     pub rows: InputRows,
+    pub symbols: SymbolRows,
 }

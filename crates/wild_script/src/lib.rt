@@ -9,8 +9,8 @@ mod section;
 mod tree;
 
 pub use tree::{
-    Command, ContentsCommand, LinkerScript, Location, Matcher, Section, SectionCommand,
-    SectionPattern, Sections,
+    Command, ContentsCommand, LinkerScript, Location, Matcher, ProvideSymbolDefinition, Section,
+    SectionCommand, SectionPattern, Sections, SymbolAssignment,
 };
 pub use wild_expression::{AssertCommand, Expression, parse_expression};
 pub use wild_reading::skip_comments_and_whitespace;

@@ -2,7 +2,7 @@
 
 use sqlite_items::{Boxed, Items};
 use wild_base::Name;
-use wild_expression::Expression;
+use wild_expression::{AssertCommand, Expression};
 
 /// A script: its outermost commands in text order.
 #[derive(Debug, Drop)]
@@ -14,6 +14,15 @@ pub struct LinkerScript {
 #[derive(Debug, Drop)]
 pub enum Command {
     Sections(Sections),
+    /// `x = e`, or another operator
+    SymbolDefinition {
+        name: Name,
+        value: Expression,
+    },
+    /// `. = e`, or another operator
+    SetLocation(Location),
+    Provide(ProvideSymbolDefinition),
+    Assert(AssertCommand),
 }
 
 /// What stands in SECTIONS.
@@ -28,12 +37,32 @@ pub enum SectionCommand {
     Section(Boxed<Section>),
     /// `. = e;`, or another operator
     SetLocation(Location),
+    Assert(AssertCommand),
+    Provide(ProvideSymbolDefinition),
+    /// `x = e;`, or another operator
+    SymbolAssignment(SymbolAssignment),
 }
 
 /// What the location counter becomes.
 #[derive(Debug, Drop)]
 pub struct Location {
     pub address: Expression,
+}
+
+/// What a symbol becomes.
+#[derive(Debug, Drop)]
+pub struct SymbolAssignment {
+    pub name: Name,
+    pub expr: Expression,
+}
+
+/// What a symbol becomes where nothing else defines it.
+#[derive(Debug, Drop)]
+pub struct ProvideSymbolDefinition {
+    pub name: Name,
+    pub value: Expression,
+    /// Written by PROVIDE_HIDDEN.
+    pub hidden: bool,
 }
 
 /// An output section.
