@@ -1,4 +1,6 @@
 pub mod Answer
 pub mod Known
+pub mod Marks
 pub mod Numbers
+pub mod Setting
 pub mod Value

@@ -1,8 +1,11 @@
 -- The value of an expression at a point, over what is known of a layout. What is not built yet is Unsupported.
-use Rattle.std.specs.Prelude.{ℕ, zero, suc, ◌+◌, ◌-◌, ◌^◌, max, true, false, ◌||◌, not, ◌==◌, nat_lt, if◌then◌else◌, codes, List, Option, Some, None, Result, Ok, Err}
+use Rattle.std.specs.Prelude.{ℕ, zero, suc, ◌+◌, ◌-◌, ◌^◌, max, Bool, true, false, ◌||◌, not, ◌==◌, nat_lt, if◌then◌else◌, codes, List, [], ◌∷◌, Option, Some, None, Result, Ok, Err}
+use Rattle.std.specs.List.{list_any}
+use Rattle.std.specs.Option.{is_some}
+use Rattle.wild_base.specs.Numbering.{is_named}
 use Rattle.wild_base.specs.Alignment.{rounded_up}
 use Rattle.wild_base.specs.declared.fault.Fault.{Fault}
-use Rattle.wild_base.specs.declared.fault.Fault.TheVariants.{DivisionByZero, ModuloByZero, AlignZero, NotLaidOut, DeepValue, Overflow, AlignOverflow, Unsupported}
+use Rattle.wild_base.specs.declared.fault.Fault.TheVariants.{DivisionByZero, ModuloByZero, AlignZero, UnknownSection, UnknownSymbol, NotLaidOut, SymbolCycle, DeepValue, BeforeSection, Overflow, AlignOverflow, AssertFailed, Unsupported}
 use Rattle.wild_expression_tree.specs.declared.tree.AssertCommand.{AssertCommand}
 use Rattle.wild_expression_tree.specs.declared.tree.Expression.{Expression, out-Expression}
 use Rattle.wild_expression_tree.specs.declared.tree.Expression.TheOpen.{Expression-F}
@@ -19,48 +22,12 @@ use Rattle.wild_value_spec.specs.declared.operator.Unary.TheVariants as unary
 use Rattle.wild_value_spec.specs.declared.value.Point.{Point}
 use Rattle.wild_value_spec.specs.declared.value.Value.{Value}
 use Rattle.wild_value_spec.specs.Answer.{◌>>=◌, or_fault}
-use Rattle.wild_value_spec.specs.Known.{Known, Start, Dot}
+use Rattle.wild_value_spec.specs.Known.{Known, Start, Load, End, Address, Dot}
+use Rattle.wild_value_spec.specs.Marks.{bare, unmarked, absolutely, relatively, absolutely_over, relatively_over, over, over_both, unmarked_over}
 use Rattle.wild_value_spec.specs.Numbers.{applied, divided_by, holds, decides, changed, truth, is_true}
+use Rattle.wild_value_spec.specs.Setting.{Name, Layer, Definition, OfRow, OfScript, Setting}
 
--- one level of an expression
-abbrev pub Layer : Type 0
-Layer = Expression-F Expression AssertCommand
-
--- what a script says of its sections
-pub record Setting : Type 0 where
-  pub section_name : ℕ → List ℕ
-
--- ---- values
-
--- a number that is no node
-abbrev pub bare : ℕ → Value
-bare n = record { number = n; relative = false; absolute = false; height = 0 }
-
--- a leaf: with no mark; with the absolute one, as an address; with the relative one, as counted from a section's start
-abbrev pub unmarked : ℕ → Value
-unmarked n = record { number = n; relative = false; absolute = false; height = 1 }
-
-abbrev pub absolutely : ℕ → Value
-absolutely n = record { number = n; relative = false; absolute = true; height = 1 }
-
-abbrev pub relatively : ℕ → Value
-relatively n = record { number = n; relative = true; absolute = false; height = 1 }
-
--- a node over one part, and over two: it is one higher, and has the marks of the parts
-abbrev pub over : ℕ → Value → Value
-over n x = record { number = n; relative = x.relative; absolute = x.absolute; height = x.height + 1 }
-
-abbrev pub over_both : ℕ → Value → Value → Value
-over_both n x y = record {
-  number = n;
-  relative = x.relative || y.relative;
-  absolute = x.absolute || y.absolute;
-  height = max x.height y.height + 1;
-}
-
--- a node over two parts that keep their marks
-abbrev pub unmarked_over : ℕ → Value → Value → Value
-unmarked_over n x y = record { number = n; relative = false; absolute = false; height = max x.height y.height + 1 }
+-- ---- faults and choices
 
 -- the fault of a divisor that is 0, in the statement of this number
 abbrev pub zero_divisor : Division → ℕ → Fault
@@ -93,9 +60,19 @@ module _ (setting : Setting) (statement : ℕ) (known : Known) where
   unfoldable pub dot_of : ℕ → Result ℕ Fault
   dot_of place = or_fault (known (Dot place)) (NotLaidOut statement (codes "."))
 
-  -- the start of a section
+  -- the start, the load address and the end of a section
   unfoldable pub start_of : ℕ → Result ℕ Fault
   start_of s = or_fault (known (Start s)) (NotLaidOut statement (setting.section_name s))
+
+  unfoldable pub load_of : ℕ → Result ℕ Fault
+  load_of s = or_fault (known (Load s)) (NotLaidOut statement (setting.section_name s))
+
+  unfoldable pub end_of : ℕ → Result ℕ Fault
+  end_of s = or_fault (known (End s)) (NotLaidOut statement (setting.section_name s))
+
+  -- the address of the row of a symbol
+  unfoldable pub row_of : Name → ℕ → Result ℕ Fault
+  row_of name row = or_fault (known (Address row)) (NotLaidOut statement name)
 
   -- ---- full values
 
@@ -126,8 +103,74 @@ module _ (setting : Setting) (statement : ℕ) (known : Known) where
   unfoldable pub counter_number : Point → Result Value Fault
   counter_number p = counter p >>= (λ x. Ok (bare x.number))
 
-  -- ---- the kinds of nodes, over their parts, whose values `part` gives
-  module _ (part : Expression → Point → Result Value Fault) where
+  -- ---- sections
+
+  -- end minus start, the end first
+  unfoldable pub extent : ℕ → Result Value Fault
+  extent s = end_of s >>= (λ last. start_of s >>= (λ start. Ok (unmarked (last - start))))
+
+  -- 0 where no section has the name
+  abbrev pub size_in : Option ℕ → Result Value Fault
+  size_in None = Ok (unmarked 0)
+  size_in (Some s) = extent s
+
+  unfoldable pub size : Name → Result Value Fault
+  size name = size_in (setting.«section» name)
+
+  -- in bytes; 0 where no section has the name
+  abbrev pub alignment_in : Option ℕ → Value
+  alignment_in None = unmarked 0
+  alignment_in (Some s) = unmarked (2 ^ setting.alignment s)
+
+  unfoldable pub alignment : Name → Value
+  alignment name = alignment_in (setting.«section» name)
+
+  -- an address of a section that must be there
+  abbrev pub address_in : (ℕ → Result ℕ Fault) → Name → Option ℕ → Result Value Fault
+  address_in of name None = Err (UnknownSection name)
+  address_in of name (Some s) = of s >>= (λ n. Ok (absolutely n))
+
+  unfoldable pub start_named : Name → Result Value Fault
+  start_named name = address_in start_of name (setting.«section» name)
+
+  unfoldable pub load_named : Name → Result Value Fault
+  load_named name = address_in load_of name (setting.«section» name)
+
+  -- ---- symbols
+
+  -- 1 where the name has a definition
+  unfoldable pub defined : Name → Value
+  defined name = unmarked (truth (is_some (setting.definition name)))
+
+  -- an address counted from the start of its section, of parts of this height
+  unfoldable pub from_start : Name → ℕ → ℕ → ℕ → Result Value Fault
+  from_start name address height start =
+      if nat_lt address start then Err (BeforeSection name) else Ok (relatively_over (address - start) height)
+
+  -- an address in a section, as it is read in a section: from the start where they are the same
+  abbrev pub used_in : Name → ℕ → ℕ → Option ℕ → Option ℕ → Result Value Fault
+  used_in name address height (Some s) (Some t) =
+      if s == t then start_of s >>= from_start name address height else Ok (absolutely_over address height)
+  used_in name address height (Some s) None = Ok (absolutely_over address height)
+  used_in name address height None t = Ok (absolutely_over address height)
+
+  -- the address of a symbol of that section, as it is read at a point
+  unfoldable pub used : Name → Option ℕ → Point → ℕ → ℕ → Result Value Fault
+  used name of p address height = used_in name address height of p.«section»
+
+  -- a symbol of the table: so far behind the start of its row
+  unfoldable pub table_symbol : Name → ℕ → ℕ → ℕ → Point → Result Value Fault
+  table_symbol name row offset s p =
+      row_of name row >>= (λ start. sum_of start offset >>= (λ address. used name (Some s) p address 0))
+
+  abbrev pub is_on : Name → List Name → Bool
+  is_on name path = list_any (is_named name) path
+
+  -- ---- the kinds of nodes, over their parts, whose values `eval` gives on a path: the symbols that are being evaluated
+  module _ (eval : List Name → Expression → Point → Result Value Fault) (path : List Name) where
+    abbrev pub part : Expression → Point → Result Value Fault
+    part = eval path
+
     -- both sides, the left one first
     unfoldable pub calculated : Arithmetic → Expression → Expression → Point → Result Value Fault
     calculated o a b p =
@@ -170,6 +213,29 @@ module _ (setting : Setting) (statement : ℕ) (known : Known) where
         part n p >>= (λ align.
         if align.number == 0 then Err (AlignZero statement) else (subject a p >>= (λ x. raised align x)))
 
+    -- a symbol of the script: the full value of its expression at its own point, with it on the path
+    unfoldable pub script_symbol : Name → Expression → Point → Point → Result Value Fault
+    script_symbol name e q p =
+        eval (name ∷ path) e q >>= (λ x. based q x >>= (λ address. used name q.«section» p address x.height))
+
+    abbrev pub symbol_by : Name → Definition → Point → Result Value Fault
+    symbol_by name (OfRow row offset s) p = table_symbol name row offset s p
+    symbol_by name (OfScript e q) p = script_symbol name e q p
+
+    -- what has the definition, unless it is on the path
+    abbrev pub symbol_in : Name → Option Definition → Point → Result Value Fault
+    symbol_in name None p = Err (UnknownSymbol name)
+    symbol_in name (Some d) p = if is_on name path then Err (SymbolCycle name) else symbol_by name d p
+
+    unfoldable pub symbol : Name → Point → Result Value Fault
+    symbol name p = symbol_in name (setting.definition name) p
+
+    -- a condition, which must not be 0
+    unfoldable pub asserted : AssertCommand → Point → Result Value Fault
+    asserted command p =
+        part command.expression p >>= (λ x.
+        if x.number == 0 then Err (AssertFailed (setting.line command.at) command.message) else Ok (over x.number x))
+
     abbrev pub node : Point → Layer → Result Value Fault
     node p (Expression-F.Number n) = Ok (unmarked n)
     node p Expression-F.LocationCounter = counter p
@@ -198,13 +264,24 @@ module _ (setting : Setting) (statement : ℕ) (known : Known) where
     node p (Expression-F.Negate a) = turned unary.Negate a p
     node p (Expression-F.Ternary c a b) = choice c a b p
     node p (Expression-F.Align n a) = aligned n a p
+    node p (Expression-F.Symbol name) = symbol name p
+    node p (Expression-F.Sizeof name) = size name
+    node p (Expression-F.Alignof name) = Ok (alignment name)
+    node p (Expression-F.Addr name) = start_named name
+    node p (Expression-F.Loadaddr name) = load_named name
+    node p (Expression-F.Defined name) = Ok (defined name)
+    node p (Expression-F.Assert command) = asserted command p
     node p e = Err (Unsupported statement)
 
   -- the value of an expression at a point, where this many levels are left
-  unfoldable pub value : ℕ → Expression → Point → Result Value Fault
-  value zero e p = Err (DeepValue statement)
-  value (suc h) e p = node (value h) p (out-Expression e)
+  unfoldable pub value : ℕ → List Name → Expression → Point → Result Value Fault
+  value zero path e p = Err (DeepValue statement)
+  value (suc h) path e p = node (value h) path p (out-Expression e)
 
   -- the number that it stands for
-  unfoldable pub full : ℕ → Expression → Point → Result ℕ Fault
-  full h e p = value h e p >>= based p
+  unfoldable pub full : ℕ → List Name → Expression → Point → Result ℕ Fault
+  full h path e p = value h path e p >>= based p
+
+  -- what an ASSERT statement is worth: it is a node over its condition, so that one level is taken
+  unfoldable pub tested : AssertCommand → Point → Result Value Fault
+  tested command p = asserted (value 1023) [] command p

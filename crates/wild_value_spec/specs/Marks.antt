@@ -1,0 +1,40 @@
+-- Values with their marks and their heights.
+use Rattle.std.specs.Prelude.{ℕ, ◌+◌, max, true, false, ◌||◌}
+use Rattle.wild_value_spec.specs.declared.value.Value.{Value}
+
+-- a number that is no node
+abbrev pub bare : ℕ → Value
+bare n = record { number = n; relative = false; absolute = false; height = 0 }
+
+-- a leaf: with no mark; with the absolute one, as an address; with the relative one, as counted from a section's start
+abbrev pub unmarked : ℕ → Value
+unmarked n = record { number = n; relative = false; absolute = false; height = 1 }
+
+abbrev pub absolutely : ℕ → Value
+absolutely n = record { number = n; relative = false; absolute = true; height = 1 }
+
+abbrev pub relatively : ℕ → Value
+relatively n = record { number = n; relative = true; absolute = false; height = 1 }
+
+-- the same over parts that are so high
+abbrev pub absolutely_over : ℕ → ℕ → Value
+absolutely_over n height = record { number = n; relative = false; absolute = true; height = height + 1 }
+
+abbrev pub relatively_over : ℕ → ℕ → Value
+relatively_over n height = record { number = n; relative = true; absolute = false; height = height + 1 }
+
+-- a node over one part, and over two: it is one higher, and has the marks of the parts
+abbrev pub over : ℕ → Value → Value
+over n x = record { number = n; relative = x.relative; absolute = x.absolute; height = x.height + 1 }
+
+abbrev pub over_both : ℕ → Value → Value → Value
+over_both n x y = record {
+  number = n;
+  relative = x.relative || y.relative;
+  absolute = x.absolute || y.absolute;
+  height = max x.height y.height + 1;
+}
+
+-- a node over two parts that keep their marks
+abbrev pub unmarked_over : ℕ → Value → Value → Value
+unmarked_over n x y = record { number = n; relative = false; absolute = false; height = max x.height y.height + 1 }
