@@ -1,74 +1,84 @@
--- Which plan fits a script and its rows, and which fault stands there instead.
-use Rattle.std.specs.Prelude.{◌≡◌, ◌⊎◌, ℕ, List, Some, None, length}
+-- Which plan fits a script and its table, and which fault stands there instead.
+use Rattle.std.specs.Prelude.{◌≡◌, ◌⊎◌, ℕ, List, Some, None, Ok, Err, length}
 use Rattle.wild_base.specs.declared.fault.Fault.{Fault}
 use Rattle.wild_script.specs.Tree.{Bytes, tree, IsParseFault}
 use Rattle.wild_script.specs.declared.tree.LinkerScript.{LinkerScript}
 use Rattle.wild_plan_spec.specs.declared.chunk.Chunk.{Chunk}
 use Rattle.wild_plan_spec.specs.declared.chunk.ChunkRow.{ChunkRow}
-use Rattle.wild_plan_spec.specs.declared.row.InputRow.{InputRow}
-use Rattle.wild_plan_spec.specs.Rules.{sections_of, rules_of}
+use Rattle.wild_plan_spec.specs.declared.placed.PlacedSymbol.{PlacedSymbol}
+use Rattle.wild_plan_spec.specs.declared.row.InputTable.{InputTable}
+use Rattle.wild_plan_spec.specs.Rules.{rules_of}
 use Rattle.wild_plan_spec.specs.Settings.{setting_of}
-use Rattle.wild_plan_spec.specs.Chunks.{rows_in, section_rows, largest_alignment}
+use Rattle.wild_plan_spec.specs.Chunks.{rows_in}
 use Rattle.wild_plan_spec.specs.Order.{IsOrdered, stands_before}
 use Rattle.wild_plan_spec.specs.Checks.{checks, failing}
 use Rattle.wild_plan_spec.specs.Places.{places_of}
 use Rattle.wild_plan_spec.specs.Line.{State}
 use Rattle.wild_plan_spec.specs.Walk.{Stands, Refuses}
+use Rattle.wild_plan_spec.specs.End.{finished}
 use Rattle.wild_plan_spec.specs.Layout.{Layout, layout}
 
-module _ (t : LinkerScript) (rows : List InputRow) where
+module _ (script : Bytes) (t : LinkerScript) (inputs : InputTable) where
   -- the rows of each chunk, in their order
   abbrev pub AreOrdered : (Chunk → List ChunkRow) → Type 0
-  AreOrdered order = (q : Chunk) → IsOrdered stands_before (rows_in (rules_of t) q rows) (order q)
+  AreOrdered order = (q : Chunk) → IsOrdered stands_before (rows_in (rules_of t) q inputs.rows) (order q)
 
-  -- the largest alignment of a section's rows
-  abbrev pub section_alignment : ℕ → ℕ
-  section_alignment s = largest_alignment (section_rows (rules_of t) s rows)
-
-  -- All checks hold, all places are laid out, and the plan lists what is then known.
-  pub record Fits (plan : Layout) : Type 0 where
-    pub sound : failing (checks t rows) ≡ None
+  -- All checks hold, and all places are laid out.
+  pub record IsLaid (state : State) : Type 0 where
+    pub sound : failing (checks t inputs) ≡ None
     pub order : Chunk → List ChunkRow
     pub ordered : AreOrdered order
+    pub stands : Stands (setting_of script t inputs) order (places_of t) (length (places_of t)) state
+
+  -- Then all symbols have values and all conditions hold over what is known, and the plan lists that.
+  pub record Fits (plan : Layout) : Type 0 where
     pub state : State
-    pub stands : Stands (setting_of (sections_of t)) section_alignment order (places_of t) (length (places_of t)) state
-    pub listed : plan ≡ layout t rows state
+    pub laid : IsLaid state
+    pub found : List PlacedSymbol
+    pub finishes : finished (setting_of script t inputs) state.known (places_of t) ≡ Ok found
+    pub listed : plan ≡ layout t inputs state found
 
   -- All checks hold, and a place refuses.
   pub record LayoutFault (fault : Fault) : Type 0 where
-    pub sound : failing (checks t rows) ≡ None
+    pub sound : failing (checks t inputs) ≡ None
     pub order : Chunk → List ChunkRow
     pub ordered : AreOrdered order
-    pub refuses : Refuses (setting_of (sections_of t)) section_alignment order (places_of t) fault
+    pub refuses : Refuses (setting_of script t inputs) order (places_of t) fault
 
-  -- the first check that fails, or the first place that refuses
+  -- All places are laid out, and a symbol has no value, or else a condition does not hold.
+  pub record EndFault (fault : Fault) : Type 0 where
+    pub state : State
+    pub laid : IsLaid state
+    pub refused : finished (setting_of script t inputs) state.known (places_of t) ≡ Err fault
+
+  -- the first check that fails, or the first place that refuses, or the first fault behind them
   abbrev pub FaultIn : Fault → Type 0
-  FaultIn fault = (failing (checks t rows) ≡ Some fault) ⊎ LayoutFault fault
+  FaultIn fault = (failing (checks t inputs) ≡ Some fault) ⊎ LayoutFault fault ⊎ EndFault fault
 
 -- a plan that fits a tree of the bytes
-pub record IsPlan (script : Bytes) (rows : List InputRow) (plan : Layout) : Type 0 where
+pub record IsPlan (script : Bytes) (inputs : InputTable) (plan : Layout) : Type 0 where
   pub script_tree : LinkerScript
   pub is_tree : tree script script_tree
-  pub fits : Fits script_tree rows plan
+  pub fits : Fits script script_tree inputs plan
 
--- the fault of a tree of the bytes, and the rows
-pub record IsLaterFault (script : Bytes) (rows : List InputRow) (fault : Fault) : Type 0 where
+-- the fault of a tree of the bytes, and the table
+pub record IsLaterFault (script : Bytes) (inputs : InputTable) (fault : Fault) : Type 0 where
   pub script_tree : LinkerScript
   pub is_tree : tree script script_tree
-  pub fault_in : FaultIn script_tree rows fault
+  pub fault_in : FaultIn script script_tree inputs fault
 
--- the bytes have no tree, or the tree and the rows have this fault
-abbrev pub IsFault : Bytes → List InputRow → Fault → Type 0
-IsFault script rows fault = IsParseFault script fault ⊎ IsLaterFault script rows fault
+-- the bytes have no tree, or the tree and the table have this fault
+abbrev pub IsFault : Bytes → InputTable → Fault → Type 0
+IsFault script inputs fault = IsParseFault script fault ⊎ IsLaterFault script inputs fault
 
 -- It is the one plan that fits, and there is no fault.
-pub record IsThePlan (script : Bytes) (rows : List InputRow) (plan : Layout) : Type 0 where
-  pub is : IsPlan script rows plan
-  pub only : (other : Layout) → IsPlan script rows other → other ≡ plan
-  pub no_fault : (fault : Fault) → IsFault script rows fault → ⊥
+pub record IsThePlan (script : Bytes) (inputs : InputTable) (plan : Layout) : Type 0 where
+  pub is : IsPlan script inputs plan
+  pub only : (other : Layout) → IsPlan script inputs other → other ≡ plan
+  pub no_fault : (fault : Fault) → IsFault script inputs fault → ⊥
 
 -- There is this fault, and no plan fits. Where the bytes have a tree it is the one fault.
-pub record IsTheFault (script : Bytes) (rows : List InputRow) (fault : Fault) : Type 0 where
-  pub is : IsFault script rows fault
-  pub none_fits : (plan : Layout) → IsPlan script rows plan → ⊥
-  pub only : (other : Fault) → IsFault script rows other → (other ≡ fault) ⊎ (IsParseFault script other × IsParseFault script fault)
+pub record IsTheFault (script : Bytes) (inputs : InputTable) (fault : Fault) : Type 0 where
+  pub is : IsFault script inputs fault
+  pub none_fits : (plan : Layout) → IsPlan script inputs plan → ⊥
+  pub only : (other : Fault) → IsFault script inputs other → (other ≡ fault) ⊎ (IsParseFault script other × IsParseFault script fault)

@@ -1,5 +1,5 @@
 -- What a plan lists.
-use Rattle.std.specs.Prelude.{ℕ, ◌+◌, ◌-◌, true, List, [], ◌∷◌, Option, Some, None, if◌then◌else◌}
+use Rattle.std.specs.Prelude.{ℕ, ◌+◌, ◌-◌, ◌%◌, ◌^◌, true, false, List, [], ◌∷◌, ◌++◌, Option, Some, None, if◌then◌else◌}
 use Rattle.std.specs.List.{list_any}
 use Rattle.wild_base.specs.InputFlags.{is_write, is_exec}
 use Rattle.wild_base.specs.declared.input_flags.InputFlags.{InputFlags}
@@ -7,12 +7,17 @@ use Rattle.wild_script.specs.declared.tree.LinkerScript.{LinkerScript}
 use Rattle.wild_script.specs.declared.tree.Section.{Section}
 use Rattle.wild_plan_spec.specs.declared.chunk.Chunk.{Chunk}
 use Rattle.wild_plan_spec.specs.declared.row.InputRow.{InputRow}
+use Rattle.wild_plan_spec.specs.declared.row.InputTable.{InputTable}
+use Rattle.wild_plan_spec.specs.declared.row.SymbolRow.{SymbolRow}
 use Rattle.wild_plan_spec.specs.declared.placed.PlacedSection.{PlacedSection}
 use Rattle.wild_plan_spec.specs.declared.placed.PlacedLocation.{PlacedLocation}
 use Rattle.wild_plan_spec.specs.declared.placed.PlacedInput.{PlacedInput}
 use Rattle.wild_plan_spec.specs.declared.placed.PlacedInput.TheVariants.{Discarded, Placed}
+use Rattle.wild_plan_spec.specs.declared.placed.PlacedSymbol.{PlacedSymbol}
 use Rattle.wild_plan_spec.specs.declared.placed.RowNames.{RowNames}
-use Rattle.wild_plan_spec.specs.Rules.{Rule, sections_of, rules_of, chunk_of}
+use Rattle.wild_plan_spec.specs.Definitions.{symbol_chunk}
+use Rattle.wild_plan_spec.specs.Rules.{Rule, rules_of, chunk_of}
+use Rattle.wild_plan_spec.specs.Statements.{sections_of}
 use Rattle.wild_plan_spec.specs.Chunks.{section_rows, largest_alignment}
 use Rattle.wild_value_spec.specs.Known.{Known, Start, Load, End, Address, number_at}
 use Rattle.wild_plan_spec.specs.Line.{State}
@@ -26,6 +31,8 @@ pub record Layout : Type 0 where
   pub placements : List PlacedInput
   -- in text order
   pub locations : List PlacedLocation
+  -- those of the table, then those of the script, each in their order
+  pub symbols : List PlacedSymbol
   pub names : List RowNames
 
 -- in memory, and writable or executable where some row is
@@ -66,12 +73,23 @@ abbrev pub row_names : List InputRow → List RowNames
 row_names [] = []
 row_names (row ∷ rows) = record { file = row.file; «section» = row.«section» } ∷ row_names rows
 
--- what is listed of a script and its rows where this stands behind the last place
-abbrev pub layout : LinkerScript → List InputRow → State → Layout
-layout t rows state = record {
+-- a symbol of the table, in the chunk of its row; no row passes 2 ^ 64, so that this is the sum
+abbrev pub table_symbol : Known → SymbolRow → Option Chunk → List PlacedSymbol
+table_symbol known s None = []
+table_symbol known s (Some chunk) = record { name = s.name; address = (number_at known (Address s.row) + s.offset) % 2 ^ 64; «section» = Some chunk.«section»; hidden = false } ∷ []
+
+-- in table order
+abbrev pub table_symbols : Known → List Rule → List InputRow → List SymbolRow → List PlacedSymbol
+table_symbols known rules rows [] = []
+table_symbols known rules rows (s ∷ ss) = table_symbol known s (symbol_chunk rules rows s) ++ table_symbols known rules rows ss
+
+-- what is listed of a script and its table where this stands behind the last place, and these are the symbols of the script
+abbrev pub layout : LinkerScript → InputTable → State → List PlacedSymbol → Layout
+layout t inputs state found = record {
   script = t;
-  sections = placed_sections state.known (rules_of t) rows 0 (sections_of t);
-  placements = placed_inputs state.known (rules_of t) 0 rows;
+  sections = placed_sections state.known (rules_of t) inputs.rows 0 (sections_of t);
+  placements = placed_inputs state.known (rules_of t) 0 inputs.rows;
   locations = state.locations;
-  names = row_names rows;
+  symbols = table_symbols state.known (rules_of t) inputs.rows inputs.symbols ++ found;
+  names = row_names inputs.rows;
 }

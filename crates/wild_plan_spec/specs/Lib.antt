@@ -1,13 +1,16 @@
 pub mod Names
+pub mod Statements
 pub mod Rules
 pub mod Chunks
 pub mod Order
 pub mod Built
 pub mod Places
+pub mod Definitions
 pub mod Settings
 pub mod Checks
 pub mod Line
 pub mod Walk
+pub mod End
 pub mod Layout
 pub mod Fit
 pub mod Text

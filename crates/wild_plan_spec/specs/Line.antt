@@ -2,16 +2,18 @@
 use Rattle.std.specs.Prelude.{ℕ, zero, suc, ◌+◌, ◌^◌, ◌&&◌, Bool, nat_lt, if◌then◌else◌, List, [], ◌∷◌, ◌++◌, Option, Some, None, Result, Ok, Err}
 use Rattle.wild_base.specs.Alignment.{rounded_up}
 use Rattle.wild_base.specs.declared.fault.Fault.{Fault}
-use Rattle.wild_base.specs.declared.fault.Fault.TheVariants.{Overflow, AlignOverflow, Overlap}
+use Rattle.wild_base.specs.declared.fault.Fault.TheVariants.{AlignOverflow, Overlap}
 use Rattle.wild_expression_tree.specs.declared.tree.Expression.{Expression}
 use Rattle.wild_value_spec.specs.Answer.{◌>>=◌}
 use Rattle.wild_value_spec.specs.Known.{Known, Start, Load, End, Address, Dot, nothing, number_at, with_entry}
-use Rattle.wild_value_spec.specs.Value.{Setting, full}
+use Rattle.wild_value_spec.specs.Setting.{Setting}
+use Rattle.wild_value_spec.specs.Value.{sum_of, full}
 use Rattle.wild_plan_spec.specs.declared.chunk.Chunk.{Chunk}
 use Rattle.wild_plan_spec.specs.declared.chunk.ChunkRow.{ChunkRow}
 use Rattle.wild_plan_spec.specs.declared.placed.PlacedLocation.{PlacedLocation}
 use Rattle.wild_plan_spec.specs.Chunks.{largest}
-use Rattle.wild_plan_spec.specs.Places.{Place, SetLocation, Open, Rows, Close}
+use Rattle.wild_plan_spec.specs.Definitions.{point_of}
+use Rattle.wild_plan_spec.specs.Places.{Place, SetLocation, Within, Outside, Open, Rows, Close}
 
 -- what stands before a place
 pub record State : Type 0 where
@@ -30,9 +32,6 @@ first_state = record { counter = 0; cursor = 0; known = nothing; locations = [] 
 -- the next multiple of 2 ^ exponent from x on
 unfoldable pub up : ℕ → ℕ → Result ℕ Fault
 up x exponent = if nat_lt (rounded_up (2 ^ exponent) x) (2 ^ 64) then Ok (rounded_up (2 ^ exponent) x) else Err (AlignOverflow x (2 ^ exponent))
-
-unfoldable pub sum_of : ℕ → ℕ → Result ℕ Fault
-sum_of a b = if nat_lt (a + b) (2 ^ 64) then Ok (a + b) else Err (Overflow a b)
 
 -- ---- rows
 
@@ -82,6 +81,12 @@ sharing known start end (suc n) = lower known (sharing known start end n) (if sh
 unfoldable pub ended : ℕ → State → Result State Fault
 ended s st = Ok (record st { counter = st.cursor; known = with_entry (End s) st.cursor st.known })
 
+-- ---- tasks
+
+-- a place that waits until all are laid out; the location counter is read there as n
+unfoldable pub passed : ℕ → ℕ → State → Result State Fault
+passed i n st = Ok (record st { known = with_entry (Dot i) n st.known })
+
 module _ (setting : Setting) where
   abbrev pub closed_by : ℕ → Option ℕ → State → Result State Fault
   closed_by s None st = ended s st
@@ -96,13 +101,15 @@ module _ (setting : Setting) where
   -- the counter becomes the full value of the expression, in which `.` is the counter as it was
   unfoldable pub location_set : ℕ → Expression → State → Result State Fault
   location_set i e st =
-      full setting i (with_entry (Dot i) st.counter st.known) 1024 e (record { place = i; «section» = None }) >>= (λ n.
+      full setting i (with_entry (Dot i) st.counter st.known) 1024 [] e (point_of i) >>= (λ n.
       Ok (record st { counter = n; known = with_entry (Dot i) st.counter st.known; locations = st.locations ++ record { statement = i; address = n } ∷ [] }))
 
-  -- what stands behind place i, or its first refusal; rows has the rows of each chunk in their order, and alignment
-  -- the alignment of each section
-  unfoldable pub line : (ℕ → ℕ) → (Chunk → List ChunkRow) → ℕ → Place → State → Result State Fault
-  line alignment rows i (SetLocation e) st = location_set i e st
-  line alignment rows i (Open s) st = opened s (alignment s) st
-  line alignment rows i (Rows q) st = chunk_placed (rows q) st
-  line alignment rows i (Close s) st = closed s st
+  -- what stands behind place i, or its first refusal; rows has the rows of each chunk in their order. Outside of
+  -- SECTIONS the location counter is read as 0
+  unfoldable pub line : (Chunk → List ChunkRow) → ℕ → Place → State → Result State Fault
+  line rows i (SetLocation e) st = location_set i e st
+  line rows i (Within task) st = passed i st.counter st
+  line rows i (Outside task) st = passed i 0 st
+  line rows i (Open s) st = opened s (setting.alignment s) st
+  line rows i (Rows q) st = chunk_placed (rows q) st
+  line rows i (Close s) st = closed s st

@@ -1,24 +1,50 @@
 -- The places of a script, as one numbered list.
-use Rattle.std.specs.Prelude.{ℕ, ◌+◌, List, [], ◌∷◌, ◌++◌}
+use Rattle.std.specs.Prelude.{ℕ, ◌+◌, List, [], ◌∷◌, ◌++◌, Option, Some, None}
+use Rattle.wild_expression_tree.specs.declared.tree.AssertCommand.{AssertCommand}
 use Rattle.wild_expression_tree.specs.declared.tree.Expression.{Expression}
 use Rattle.wild_script.specs.declared.tree.LinkerScript.{LinkerScript}
+use Rattle.wild_script.specs.declared.tree.Command.{Command}
+use Rattle.wild_script.specs.declared.tree.Command.TheVariants as command
+use Rattle.wild_script.specs.declared.tree.ProvideSymbolDefinition.{ProvideSymbolDefinition}
 use Rattle.wild_script.specs.declared.tree.Section.{Section}
 use Rattle.wild_script.specs.declared.tree.SectionCommand.{SectionCommand}
-use Rattle.wild_script.specs.declared.tree.SectionCommand.TheVariants.{Section as OfSection, SetLocation as OfLocation}
+use Rattle.wild_script.specs.declared.tree.SectionCommand.TheVariants as inner
 use Rattle.wild_script.specs.declared.tree.ContentsCommand.{ContentsCommand}
 use Rattle.wild_script.specs.declared.tree.ContentsCommand.TheVariants.{Matcher}
 use Rattle.wild_plan_spec.specs.declared.chunk.Chunk.{Chunk}
-use Rattle.wild_plan_spec.specs.Rules.{statements_of}
+use Rattle.wild_plan_spec.specs.Names.{Name}
+use Rattle.wild_plan_spec.specs.Statements.{Statement, Inner, Outer, statements_of}
+
+-- what is evaluated once all places are laid out
+pub data Task : Type 0 where
+  -- a symbol becomes the value of an expression
+  Assign : Name → Expression → Task
+  -- the same, where nothing else defines it
+  Provide : ProvideSymbolDefinition → Task
+  -- the location counter becomes that outside of SECTIONS, where it has no effect
+  Locate : Expression → Task
+  -- a condition must hold
+  Check : AssertCommand → Task
 
 pub data Place : Type 0 where
   -- the location counter becomes the value of an expression
   SetLocation : Expression → Place
+  -- a task in SECTIONS
+  Within : Task → Place
+  -- a task of an outermost statement
+  Outside : Task → Place
   -- the section of this number begins
   Open : ℕ → Place
   -- the rows of a chunk
   Rows : Chunk → Place
   -- the section of this number ends
   Close : ℕ → Place
+
+-- the task of a place
+abbrev pub task_of : Place → Option Task
+task_of (Within task) = Some task
+task_of (Outside task) = Some task
+task_of p = None
 
 -- the statements of section s, whose next chunk has this number
 abbrev pub contents_places : ℕ → ℕ → List ContentsCommand → List Place
@@ -28,20 +54,35 @@ contents_places s number (Matcher m ∷ cs) = Rows (record { «section» = s; nu
 abbrev pub section_places : ℕ → Section → List Place
 section_places s x = Open s ∷ (contents_places s 0 x.commands ++ Close s ∷ [])
 
--- a statement, whose section, if it is one, has the number s
-abbrev pub statement_places : ℕ → SectionCommand → List Place
-statement_places s (OfSection x) = section_places s x
-statement_places s (OfLocation l) = SetLocation l.address ∷ []
+-- a statement in SECTIONS, whose section, if it is one, has the number s
+abbrev pub inner_places : ℕ → SectionCommand → List Place
+inner_places s (inner.Section x) = section_places s x
+inner_places s (inner.SetLocation l) = SetLocation l.address ∷ []
+inner_places s (inner.SymbolAssignment a) = Within (Assign a.name a.expr) ∷ []
+inner_places s (inner.Provide d) = Within (Provide d) ∷ []
+inner_places s (inner.Assert c) = Within (Check c) ∷ []
+
+-- an outermost command other than SECTIONS
+abbrev pub outer_places : Command → List Place
+outer_places (command.SymbolDefinition name value) = Outside (Assign name value) ∷ []
+outer_places (command.SetLocation l) = Outside (Locate l.address) ∷ []
+outer_places (command.Provide d) = Outside (Provide d) ∷ []
+outer_places (command.Assert c) = Outside (Check c) ∷ []
+outer_places (command.Sections s) = []
+
+abbrev pub statement_places : ℕ → Statement → List Place
+statement_places s (Inner c) = inner_places s c
+statement_places s (Outer c) = outer_places c
 
 -- the number of the next section behind a statement
-abbrev pub next_section : ℕ → SectionCommand → ℕ
-next_section s (OfSection x) = s + 1
-next_section s (OfLocation l) = s
+abbrev pub next_section : ℕ → Statement → ℕ
+next_section s (Inner (inner.Section x)) = s + 1
+next_section s st = s
 
 -- the next section of the list has the number s
-abbrev pub all_places : ℕ → List SectionCommand → List Place
+abbrev pub all_places : ℕ → List Statement → List Place
 all_places s [] = []
-all_places s (c ∷ cs) = statement_places s c ++ all_places (next_section s c) cs
+all_places s (st ∷ sts) = statement_places s st ++ all_places (next_section s st) sts
 
 -- in text order
 abbrev pub places_of : LinkerScript → List Place

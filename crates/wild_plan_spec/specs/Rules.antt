@@ -1,40 +1,16 @@
--- The sections of a script, and the rules by which it collects input sections.
+-- The rules by which a script collects input sections.
 use Rattle.std.specs.Prelude.{ℕ, ◌+◌, Bool, List, [], ◌∷◌, ◌++◌, Option}
 use Rattle.std.specs.Option.{option_map}
 use Rattle.std.specs.List.{find}
 use Rattle.std.specs.Str.{bytes_eq}
 use Rattle.wild_script.specs.declared.tree.LinkerScript.{LinkerScript}
-use Rattle.wild_script.specs.declared.tree.Command.{Command}
-use Rattle.wild_script.specs.declared.tree.Command.TheVariants.{Sections}
-use Rattle.wild_script.specs.declared.tree.SectionCommand.{SectionCommand}
-use Rattle.wild_script.specs.declared.tree.SectionCommand.TheVariants.{Section as OfSection, SetLocation}
 use Rattle.wild_script.specs.declared.tree.Section.{Section}
 use Rattle.wild_script.specs.declared.tree.ContentsCommand.{ContentsCommand}
 use Rattle.wild_script.specs.declared.tree.ContentsCommand.TheVariants.{Matcher}
 use Rattle.wild_script.specs.declared.tree.SectionPattern.{SectionPattern}
 use Rattle.wild_plan_spec.specs.declared.chunk.Chunk.{Chunk}
 use Rattle.wild_plan_spec.specs.Names.{Name}
-
--- ---- sections
-
-abbrev pub command_statements : List Command → List SectionCommand
-command_statements [] = []
-command_statements (Sections s ∷ cs) = s.commands ++ command_statements cs
-
--- the statements of a script in text order, whichever SECTIONS they stand in
-abbrev pub statements_of : LinkerScript → List SectionCommand
-statements_of t = command_statements t.commands
-
-abbrev pub statement_sections : List SectionCommand → List Section
-statement_sections [] = []
-statement_sections (OfSection s ∷ cs) = s ∷ statement_sections cs
-statement_sections (SetLocation l ∷ cs) = statement_sections cs
-
--- the sections of a script in text order; their numbers are their places in this list
-abbrev pub sections_of : LinkerScript → List Section
-sections_of t = statement_sections (statements_of t)
-
--- ---- rules
+use Rattle.wild_plan_spec.specs.Statements.{sections_of}
 
 -- an input section of this name goes to this chunk
 pub record Rule : Type 0 where

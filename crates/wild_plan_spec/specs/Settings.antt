@@ -1,17 +1,47 @@
--- What a script says of its sections.
-use Rattle.std.specs.Prelude.{ℕ, List, [], ◌∷◌, Option, Some, None, slice_get}
+-- What a script and its table say of sections and symbols.
+use Rattle.std.specs.Prelude.{ℕ, ◌+◌, List, [], ◌∷◌, Option, Some, None, slice_get}
+use Rattle.std.specs.Option.{unwrap_or}
+use Rattle.wild_base.specs.Numbering.{number_of}
+use Rattle.wild_script.specs.Tree.{Bytes}
+use Rattle.wild_script.specs.declared.tree.LinkerScript.{LinkerScript}
 use Rattle.wild_script.specs.declared.tree.Section.{Section}
-use Rattle.wild_value_spec.specs.Value.{Setting}
+use Rattle.wild_value_spec.specs.Setting.{Setting, line_of}
+use Rattle.wild_plan_spec.specs.declared.row.InputRow.{InputRow}
+use Rattle.wild_plan_spec.specs.declared.row.InputTable.{InputTable}
+use Rattle.wild_plan_spec.specs.Chunks.{section_rows, largest_alignment}
+use Rattle.wild_plan_spec.specs.Definitions.{Entry, definition_in, all_entries}
 use Rattle.wild_plan_spec.specs.Names.{Name}
+use Rattle.wild_plan_spec.specs.Places.{places_of}
+use Rattle.wild_plan_spec.specs.Rules.{Rule, rules_of}
+use Rattle.wild_plan_spec.specs.Statements.{sections_of}
 
 abbrev pub names_of : List Section → List Name
 names_of [] = []
 names_of (s ∷ ss) = s.output_section_name ∷ names_of ss
 
+-- the largest alignment of each section's rows, as exponents; the first section of the list has the number s
+abbrev pub alignments_of : List Rule → List InputRow → ℕ → List Section → List ℕ
+alignments_of rules rows s [] = []
+alignments_of rules rows s (x ∷ xs) = largest_alignment (section_rows rules s rows) ∷ alignments_of rules rows (s + 1) xs
+
 abbrev pub or_empty : Option Name → Name
 or_empty (Some name) = name
 or_empty None = []
 
--- the names of these sections, which are numbered in order from 0
-abbrev pub setting_of : List Section → Setting
-setting_of sections = record { section_name = λ s. or_empty (slice_get (names_of sections) s) }
+-- sections of these names and alignments, which are numbered in order from 0, and these symbols
+abbrev pub setting_with : List Name → List ℕ → List Entry → Bytes → Setting
+setting_with names alignments entries script = record {
+  section_name = λ s. or_empty (slice_get names s);
+  «section» = λ x. number_of x names;
+  alignment = λ s. unwrap_or (slice_get alignments s) 0;
+  definition = definition_in entries;
+  line = line_of script;
+}
+
+-- what the bytes of a script, its tree and a table say
+abbrev pub setting_of : Bytes → LinkerScript → InputTable → Setting
+setting_of script t inputs = setting_with
+    (names_of (sections_of t))
+    (alignments_of (rules_of t) inputs.rows 0 (sections_of t))
+    (all_entries (rules_of t) inputs.rows inputs.symbols (places_of t))
+    script

@@ -1,5 +1,5 @@
 -- How names, addresses and plans are printed.
-use Rattle.std.specs.Prelude.{ℕ, ◌/◌, ◌%◌, ◌+◌, ◌-◌, Bool, false, ◌&&◌, not, ◌==◌, nat_le, if◌then◌else◌, List, [], ◌∷◌, ◌++◌, length, replicate, codes, decimal, flat_map, slice_get, Option, Some, None, ◌^◌}
+use Rattle.std.specs.Prelude.{ℕ, ◌/◌, ◌%◌, ◌+◌, ◌-◌, Bool, true, false, ◌&&◌, not, ◌==◌, nat_le, if◌then◌else◌, List, [], ◌∷◌, ◌++◌, length, replicate, codes, decimal, flat_map, slice_get, Option, Some, None, ◌^◌}
 use Rattle.std.specs.Fmt.{digit_glyph, digits}
 use Rattle.wild_base.specs.InputFlags.{is_alloc, is_write, is_exec, is_nobits, is_tls}
 use Rattle.wild_base.specs.declared.input_flags.InputFlags.{InputFlags}
@@ -7,6 +7,7 @@ use Rattle.wild_plan_spec.specs.declared.placed.PlacedSection.{PlacedSection}
 use Rattle.wild_plan_spec.specs.declared.placed.PlacedInput.{PlacedInput}
 use Rattle.wild_plan_spec.specs.declared.placed.PlacedInput.TheVariants.{Discarded, Placed}
 use Rattle.wild_plan_spec.specs.declared.placed.PlacedLocation.{PlacedLocation}
+use Rattle.wild_plan_spec.specs.declared.placed.PlacedSymbol.{PlacedSymbol}
 use Rattle.wild_plan_spec.specs.declared.placed.RowNames.{RowNames}
 use Rattle.wild_plan_spec.specs.Names.{Name}
 use Rattle.wild_plan_spec.specs.Layout.{Layout}
@@ -104,6 +105,19 @@ input_lines sections n (p ∷ ps) (x ∷ xs) = input_line sections n p x ++ inpu
 unfoldable pub location_line : PlacedLocation → List ℕ
 location_line l = codes "location" ++ field (decimal l.statement) ++ field (printed_address l.address) ++ 10 ∷ []
 
--- the text of a plan: a line for each section, then one for each row, then one for each location
+-- the name of the section that holds a symbol
+abbrev pub printed_holder : List PlacedSection → Option ℕ → List ℕ
+printed_holder sections None = 45 ∷ []
+printed_holder sections (Some s) = printed_name (name_at sections s)
+
+abbrev pub printed_visibility : Bool → List ℕ
+printed_visibility true = codes "hidden"
+printed_visibility false = codes "default"
+
+-- `symbol NAME ADDRESS SECTION VISIBILITY`
+unfoldable pub symbol_line : List PlacedSection → PlacedSymbol → List ℕ
+symbol_line sections s = codes "symbol" ++ field (printed_name s.name) ++ field (printed_address s.address) ++ field (printed_holder sections s.«section») ++ field (printed_visibility s.hidden) ++ 10 ∷ []
+
+-- the text of a plan: a line for each section, then for each row, then for each location, then for each symbol
 abbrev pub plan_text : Layout → List ℕ
-plan_text plan = flat_map section_line plan.sections ++ input_lines plan.sections 0 plan.placements plan.names ++ flat_map location_line plan.locations
+plan_text plan = flat_map section_line plan.sections ++ input_lines plan.sections 0 plan.placements plan.names ++ flat_map location_line plan.locations ++ flat_map (symbol_line plan.sections) plan.symbols

@@ -1,0 +1,91 @@
+-- The definitions of symbols.
+use Rattle.std.specs.Prelude.{ℕ, ◌+◌, List, [], ◌∷◌, ◌++◌, Option, Some, None, slice_get}
+use Rattle.wild_base.specs.Numbering.{number_of}
+use Rattle.wild_value_spec.specs.declared.value.Point.{Point}
+use Rattle.wild_value_spec.specs.Setting.{Definition, OfRow, OfScript}
+use Rattle.wild_plan_spec.specs.declared.chunk.Chunk.{Chunk}
+use Rattle.wild_plan_spec.specs.declared.row.InputRow.{InputRow}
+use Rattle.wild_plan_spec.specs.declared.row.SymbolRow.{SymbolRow}
+use Rattle.wild_plan_spec.specs.Names.{Name}
+use Rattle.wild_plan_spec.specs.Places.{Place, Task, Assign, Provide, task_of}
+use Rattle.wild_plan_spec.specs.Rules.{Rule, chunk_of}
+
+-- a name, and what it is defined as
+pub record Entry : Type 0 where
+  pub name : Name
+  pub definition : Definition
+
+-- an entry of a name that is not empty; the empty name has none
+abbrev pub entry_of : Name → Definition → List Entry
+entry_of [] d = []
+entry_of (b ∷ bs) d = record { name = b ∷ bs; definition = d } ∷ []
+
+-- ---- symbols of the table
+
+-- the chunk of a row, where there is a row and it has one
+abbrev pub row_chunk : List Rule → Option InputRow → Option Chunk
+row_chunk rules None = None
+row_chunk rules (Some row) = chunk_of rules row.«section»
+
+-- the chunk that holds a symbol: that of its row
+abbrev pub symbol_chunk : List Rule → List InputRow → SymbolRow → Option Chunk
+symbol_chunk rules rows symbol = row_chunk rules (slice_get rows symbol.row)
+
+abbrev pub table_entry : SymbolRow → Option Chunk → List Entry
+table_entry symbol None = []
+table_entry symbol (Some chunk) = entry_of symbol.name (OfRow symbol.row symbol.offset chunk.«section»)
+
+-- in table order
+abbrev pub table_entries : List Rule → List InputRow → List SymbolRow → List Entry
+table_entries rules rows [] = []
+table_entries rules rows (s ∷ ss) = table_entry s (symbol_chunk rules rows s) ++ table_entries rules rows ss
+
+-- ---- symbols of the script
+
+-- place i, which is in no section's contents
+abbrev pub point_of : ℕ → Point
+point_of i = record { place = i; «section» = None }
+
+abbrev pub assigned_by : ℕ → Option Task → List Entry
+assigned_by i (Some (Assign name value)) = entry_of name (OfScript value (point_of i))
+assigned_by i task = []
+
+-- the assignments; the first place of the list has the number i
+abbrev pub assigned_entries : ℕ → List Place → List Entry
+assigned_entries i [] = []
+assigned_entries i (p ∷ ps) = assigned_by i (task_of p) ++ assigned_entries (i + 1) ps
+
+abbrev pub provided_by : ℕ → Option Task → List Entry
+provided_by i (Some (Provide d)) = entry_of d.name (OfScript d.value (point_of i))
+provided_by i task = []
+
+-- the PROVIDEs
+abbrev pub provided_entries : ℕ → List Place → List Entry
+provided_entries i [] = []
+provided_entries i (p ∷ ps) = provided_by i (task_of p) ++ provided_entries (i + 1) ps
+
+-- ---- the definition that counts
+
+-- what must not be defined twice
+abbrev pub firm_entries : List Rule → List InputRow → List SymbolRow → List Place → List Entry
+firm_entries rules rows symbols ps = table_entries rules rows symbols ++ assigned_entries 0 ps
+
+-- all entries, those of PROVIDE last
+abbrev pub all_entries : List Rule → List InputRow → List SymbolRow → List Place → List Entry
+all_entries rules rows symbols ps = firm_entries rules rows symbols ps ++ provided_entries 0 ps
+
+abbrev pub entry_names : List Entry → List Name
+entry_names [] = []
+entry_names (e ∷ es) = e.name ∷ entry_names es
+
+abbrev pub definition_at : Option Entry → Option Definition
+definition_at None = None
+definition_at (Some e) = Some e.definition
+
+abbrev pub numbered_definition : List Entry → Option ℕ → Option Definition
+numbered_definition es None = None
+numbered_definition es (Some i) = definition_at (slice_get es i)
+
+-- that of the first entry of the name
+abbrev pub definition_in : List Entry → Name → Option Definition
+definition_in es name = numbered_definition es (number_of name (entry_names es))
