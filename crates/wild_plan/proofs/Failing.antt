@@ -1,12 +1,17 @@
 -- The first failure among checks that follow each other.
-use Rattle.std.proofs.Common.{◌≡◌, ◌∙◌, Bool, true, false, not, List, [], ◌∷◌, ◌++◌, cond, refl, Option, Some, None}
+use Rattle.std.proofs.Common.{◌≡◌, ◌∙◌, ◌⊎◌, inl, inr, Bool, true, false, not, List, [], ◌∷◌, ◌++◌, cond, refl, Option, Some, None}
 use Rattle.std.specs.Option.{option_map, option_or}
 use Rattle.wild_base.specs.declared.fault.Fault.{Fault}
+use Rattle.wild_base.specs.declared.fault.Fault.TheVariants.{DuplicateSection, DuplicateSymbol}
 use Rattle.wild_script.specs.declared.tree.LinkerScript.{LinkerScript}
-use Rattle.wild_plan_spec.specs.declared.row.InputRow.{InputRow}
-use Rattle.wild_plan_spec.specs.Rules.{sections_of, rules_of}
+use Rattle.wild_plan_spec.specs.declared.row.InputTable.{InputTable}
+use Rattle.wild_plan_spec.specs.Rules.{rules_of}
 use Rattle.wild_plan_spec.specs.Places.{places_of}
-use Rattle.wild_plan_spec.specs.Checks.{Check, row_checks, place_checks, name_checks, support_checks, checks, failing}
+use Rattle.wild_plan_spec.specs.Settings.{names_of}
+use Rattle.wild_plan_spec.specs.Statements.{sections_of}
+use Rattle.wild_plan_spec.specs.Definitions.{entry_names, firm_entries}
+use Rattle.wild_plan_spec.specs.Checks.{Check, row_checks, symbol_checks, place_checks, name_checks, support_checks, checks, failing}
+use Rattle.wild_plan.specs.Passes.{IsWanted}
 
 failing_by : (b : Bool) (c : Check) (first both next : Option Check) → option_map (λ c. c.fault) both ≡ option_or (option_map (λ c. c.fault) first) (option_map (λ c. c.fault) next)
     → option_map (λ c. c.fault) (cond b (Some c) both) ≡ option_or (option_map (λ c. c.fault) (cond b (Some c) first)) (option_map (λ c. c.fault) next)
@@ -26,39 +31,66 @@ failing_behind xs ys none = failing_append xs ys ∙ rw none refl
 pub failing_before : (xs ys : List Check) (fault : Fault) → failing xs ≡ Some fault → failing (xs ++ ys) ≡ Some fault
 failing_before xs ys fault some = failing_append xs ys ∙ rw some refl
 
--- ---- the checks of a script and its rows, by their four parts
+-- the same of a fault that is wanted
+pub wanted_before : (xs ys : List Check) (fault : Fault) → IsWanted (failing xs) fault → IsWanted (failing (xs ++ ys)) fault
+wanted_before xs ys fault (inl h) = inl h
+wanted_before xs ys fault (inr h) = inr (failing_before xs ys fault h)
 
-module _ (t : LinkerScript) (rows : List InputRow) where
-  abbrev pub of_rows : List Check
-  of_rows = row_checks 0 rows
+pub wanted_behind : (xs ys : List Check) (fault : Fault) → failing xs ≡ None → IsWanted (failing ys) fault → IsWanted (failing (xs ++ ys)) fault
+wanted_behind xs ys fault none (inl h) = inl h
+wanted_behind xs ys fault none (inr h) = inr (failing_behind xs ys none ∙ h)
+
+pub none_behind : (xs ys : List Check) → failing xs ≡ None → failing ys ≡ None → failing (xs ++ ys) ≡ None
+none_behind xs ys a b = failing_behind xs ys a ∙ b
+
+-- ---- the checks of a script and its table, by their five parts
+
+module _ (t : LinkerScript) (inputs : InputTable) where
+  abbrev pub of_table : List Check
+  of_table = row_checks 0 inputs.rows ++ symbol_checks inputs.rows 0 inputs.symbols
 
   abbrev pub of_places : List Check
   of_places = place_checks 0 (places_of t)
 
-  abbrev pub of_names : List Check
-  of_names = name_checks [] (sections_of t)
+  abbrev pub of_sections : List Check
+  of_sections = name_checks DuplicateSection [] (names_of (sections_of t))
+
+  abbrev pub of_symbols : List Check
+  of_symbols = name_checks DuplicateSymbol [] (entry_names (firm_entries (rules_of t) inputs.rows inputs.symbols (places_of t)))
 
   abbrev pub of_support : List Check
-  of_support = support_checks (rules_of t) 0 rows
+  of_support = support_checks (rules_of t) 0 inputs.rows
 
-  -- the checks before those of the names hold
-  places_hold : failing of_rows ≡ None → failing of_places ≡ None → failing (of_rows ++ of_places) ≡ None
-  places_hold a b = failing_behind of_rows of_places a ∙ b
+  pub table_fails : (fault : Fault) → IsWanted (failing of_table) fault → IsWanted (failing (checks t inputs)) fault
+  table_fails fault h = wanted_before (of_table ++ of_places ++ of_sections ++ of_symbols) of_support fault (wanted_before (of_table ++ of_places ++ of_sections) of_symbols fault
+      (wanted_before (of_table ++ of_places) of_sections fault (wanted_before of_table of_places fault h)))
 
-  names_hold : failing of_rows ≡ None → failing of_places ≡ None → failing of_names ≡ None → failing (of_rows ++ of_places ++ of_names) ≡ None
-  names_hold a b c = failing_behind (of_rows ++ of_places) of_names (places_hold a b) ∙ c
+  module _ (a : failing of_table ≡ None) where
+    pub places_fail : (fault : Fault) → IsWanted (failing of_places) fault → IsWanted (failing (checks t inputs)) fault
+    places_fail fault h = wanted_before (of_table ++ of_places ++ of_sections ++ of_symbols) of_support fault (wanted_before (of_table ++ of_places ++ of_sections) of_symbols fault
+        (wanted_before (of_table ++ of_places) of_sections fault (wanted_behind of_table of_places fault a h)))
 
-  pub checks_hold : failing of_rows ≡ None → failing of_places ≡ None → failing of_names ≡ None → failing of_support ≡ None → failing (checks t rows) ≡ None
-  checks_hold a b c d = failing_behind (of_rows ++ of_places ++ of_names) of_support (names_hold a b c) ∙ d
+    module _ (b : failing of_places ≡ None) where
+      places_hold : failing (of_table ++ of_places) ≡ None
+      places_hold = none_behind of_table of_places a b
 
-  pub row_fails : (fault : Fault) → failing of_rows ≡ Some fault → failing (checks t rows) ≡ Some fault
-  row_fails fault a = failing_before (of_rows ++ of_places ++ of_names) of_support fault (failing_before (of_rows ++ of_places) of_names fault (failing_before of_rows of_places fault a))
+      pub sections_fail : (fault : Fault) → IsWanted (failing of_sections) fault → IsWanted (failing (checks t inputs)) fault
+      sections_fail fault h = wanted_before (of_table ++ of_places ++ of_sections ++ of_symbols) of_support fault (wanted_before (of_table ++ of_places ++ of_sections) of_symbols fault
+          (wanted_behind (of_table ++ of_places) of_sections fault places_hold h))
 
-  pub place_fails : (fault : Fault) → failing of_rows ≡ None → failing of_places ≡ Some fault → failing (checks t rows) ≡ Some fault
-  place_fails fault a b = failing_before (of_rows ++ of_places ++ of_names) of_support fault (failing_before (of_rows ++ of_places) of_names fault (failing_behind of_rows of_places a ∙ b))
+      module _ (c : failing of_sections ≡ None) where
+        sections_hold : failing (of_table ++ of_places ++ of_sections) ≡ None
+        sections_hold = none_behind (of_table ++ of_places) of_sections places_hold c
 
-  pub name_fails : (fault : Fault) → failing of_rows ≡ None → failing of_places ≡ None → failing of_names ≡ Some fault → failing (checks t rows) ≡ Some fault
-  name_fails fault a b c = failing_before (of_rows ++ of_places ++ of_names) of_support fault (failing_behind (of_rows ++ of_places) of_names (places_hold a b) ∙ c)
+        pub symbols_fail : (fault : Fault) → IsWanted (failing of_symbols) fault → IsWanted (failing (checks t inputs)) fault
+        symbols_fail fault h = wanted_before (of_table ++ of_places ++ of_sections ++ of_symbols) of_support fault (wanted_behind (of_table ++ of_places ++ of_sections) of_symbols fault sections_hold h)
 
-  pub support_fails : (fault : Fault) → failing of_rows ≡ None → failing of_places ≡ None → failing of_names ≡ None → failing of_support ≡ Some fault → failing (checks t rows) ≡ Some fault
-  support_fails fault a b c d = failing_behind (of_rows ++ of_places ++ of_names) of_support (names_hold a b c) ∙ d
+        module _ (d : failing of_symbols ≡ None) where
+          symbols_hold : failing (of_table ++ of_places ++ of_sections ++ of_symbols) ≡ None
+          symbols_hold = none_behind (of_table ++ of_places ++ of_sections) of_symbols sections_hold d
+
+          pub support_fails : (fault : Fault) → IsWanted (failing of_support) fault → IsWanted (failing (checks t inputs)) fault
+          support_fails fault h = wanted_behind (of_table ++ of_places ++ of_sections ++ of_symbols) of_support fault symbols_hold h
+
+          pub all_hold : failing of_support ≡ None → failing (checks t inputs) ≡ None
+          all_hold e = none_behind (of_table ++ of_places ++ of_sections ++ of_symbols) of_support symbols_hold e

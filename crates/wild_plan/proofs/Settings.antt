@@ -1,13 +1,24 @@
--- The names of sections, borrowed or not, say the same.
-use Rattle.std.proofs.Common.{◌≡◌, ℕ, zero, suc, List, [], ◌∷◌, refl, ap, ◌∙◌}
+-- The names of sections and symbols, as they are kept, say what a script and its table say.
+use Rattle.std.proofs.Common.{◌≡◌, ℕ, zero, suc, List, [], ◌∷◌, Option, Some, None, refl, ap, ◌∙◌}
 use Rattle.std.proofs.Math.Path.{fun_ext}
 use Rattle.std.specs.Prelude.{slice_get}
+use Rattle.std.specs.Option.{unwrap_or}
 use denote.Ref.{Bor}
-use Rattle.wild_script.specs.declared.tree.Section.{Section}
-use Rattle.wild_value_spec.specs.Value.{Setting}
+use Rattle.wild_base.specs.Numbering.{number_of}
+use Rattle.wild_script.specs.Tree.{Bytes}
+use Rattle.wild_script.specs.declared.tree.LinkerScript.{LinkerScript}
+use Rattle.wild_value_spec.specs.Setting.{Definition, Setting, line_of}
+use Rattle.wild_eval.specs.declared.names.Entry.{Entry}
+use Rattle.wild_eval.specs.declared.names.Names.{Names}
 use Rattle.wild_eval.specs.Setting as named
+use Rattle.wild_plan_spec.specs.declared.row.InputTable.{InputTable}
+use Rattle.wild_plan_spec.specs.Definitions as spec
 use Rattle.wild_plan_spec.specs.Names.{Name}
-use Rattle.wild_plan_spec.specs.Settings.{names_of, or_empty, setting_of}
+use Rattle.wild_plan_spec.specs.Places.{places_of}
+use Rattle.wild_plan_spec.specs.Rules.{rules_of}
+use Rattle.wild_plan_spec.specs.Settings.{names_of, alignments_of, or_empty, setting_with, setting_of}
+use Rattle.wild_plan_spec.specs.Statements.{sections_of}
+use Rattle.wild_plan.specs.Entries.{shown_entries}
 use Rattle.wild_plan.specs.Pointed.{pointed}
 
 name_same : (names : List (Bor Name)) (s : ℕ) → named.or_empty (slice_get names s) ≡ or_empty (slice_get (pointed names) s)
@@ -15,12 +26,33 @@ name_same [] s = refl
 name_same (x ∷ xs) zero = refl
 name_same (x ∷ xs) (suc s) = name_same xs s
 
-abbrev setting_by : List Name → Setting
-setting_by xs = record { section_name = λ s. or_empty (slice_get xs s) }
+entry_same : (es : List Entry) (i : ℕ) → named.entry_at i es ≡ spec.definition_at (slice_get (shown_entries es) i)
+entry_same [] i = refl
+entry_same (e ∷ es) zero = refl
+entry_same (e ∷ es) (suc i) = entry_same es i
 
-abbrev setting_with : (ℕ → Name) → Setting
-setting_with f = record { section_name = f }
+defined_same : (o : Option ℕ) (es : List Entry) → named.defined_at o es ≡ spec.numbered_definition (shown_entries es) o
+defined_same None es = refl
+defined_same (Some i) es = entry_same es i
 
-pub settings_same : (names : List (Bor Name)) (sections : List Section) → pointed names ≡ names_of sections → named.setting_of names ≡ setting_of sections
-unfolding setting_with setting_by
-settings_same names sections e = ap setting_with (fun_ext (λ s. name_same names s)) ∙ ap setting_by e
+abbrev made : (ℕ → Name) → (Name → Option ℕ) → (ℕ → ℕ) → (Name → Option Definition) → (ℕ → ℕ) → Setting
+made n s a d l = record { section_name = n; «section» = s; alignment = a; definition = d; line = l }
+
+made_same : {n m : ℕ → Name} {s r : Name → Option ℕ} {a b : ℕ → ℕ} {d e : Name → Option Definition} {k l : ℕ → ℕ} → n ≡ m → s ≡ r → a ≡ b → d ≡ e → k ≡ l → made n s a d k ≡ made m r b e l
+made_same p q r u v = rw (p, q, r, u, v) refl
+
+abbrev all_of : LinkerScript → InputTable → List spec.Entry
+all_of t inputs = spec.all_entries (rules_of t) inputs.rows inputs.symbols (places_of t)
+
+pub settings_same : (names : Names) (script : Bytes) (t : LinkerScript) (inputs : InputTable) → pointed names.sections.now ≡ names_of (sections_of t) → names.section_numbers.now ≡ names_of (sections_of t)
+    → names.alignments.now ≡ alignments_of (rules_of t) inputs.rows 0 (sections_of t) → names.symbols.now ≡ spec.entry_names (all_of t inputs) → shown_entries names.entries.now ≡ all_of t inputs → names.script.now ≡ script
+    → named.setting_of names ≡ setting_of script t inputs
+unfolding made
+settings_same names script t inputs a b c d e f = made_same
+    (fun_ext (λ s. name_same names.sections.now s) ∙ ap (λ (xs : List Name). λ (s : ℕ). or_empty (slice_get xs s)) a)
+    (ap (λ (xs : List Name). λ (x : Name). number_of x xs) b)
+    (ap (λ (xs : List ℕ). λ (s : ℕ). unwrap_or (slice_get xs s) 0) c)
+    (fun_ext (λ x. defined_same (number_of x names.symbols.now) names.entries.now)
+        ∙ ap (λ (xs : List Name). λ (x : Name). spec.numbered_definition (shown_entries names.entries.now) (number_of x xs)) d
+        ∙ ap (λ (es : List spec.Entry). λ (x : Name). spec.numbered_definition es (number_of x (spec.entry_names (all_of t inputs)))) e)
+    (ap (λ (xs : Bytes). λ (i : ℕ). line_of xs i) f)

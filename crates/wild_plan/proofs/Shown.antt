@@ -1,9 +1,14 @@
--- Lists of places as they are kept.
+-- Lists of statements and places as they are kept.
 use Rattle.std.proofs.Common.{◌≡◌, ℕ, zero, suc, ◌++◌, List, [], ◌∷◌, length, Some, refl, ap}
 use Rattle.std.specs.Prelude.{slice_get, Option}
 use Rattle.std.specs.Option.{option_map}
+use Rattle.wild_plan.specs.declared.statements.Statement.{Statement}
 use Rattle.wild_plan.specs.declared.places.Place.{Place}
-use Rattle.wild_plan.specs.Shown.{shown_place, shown}
+use Rattle.wild_plan.specs.Shown.{shown_statement, shown_statements, shown_place, shown}
+
+pub statements_append : (xs ys : List Statement) → shown_statements (xs ++ ys) ≡ shown_statements xs ++ shown_statements ys
+statements_append [] ys = refl
+statements_append (x ∷ xs) ys = ap (λ zs. shown_statement x ∷ zs) (statements_append xs ys)
 
 pub shown_append : (xs ys : List Place) → shown (xs ++ ys) ≡ shown xs ++ shown ys
 shown_append [] ys = refl

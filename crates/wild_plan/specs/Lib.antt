@@ -1,5 +1,6 @@
 pub mod Pointed
 pub mod Shown
+pub mod Entries
 pub mod Paired
 pub mod Passes
 pub mod Traits

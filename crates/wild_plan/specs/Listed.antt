@@ -29,3 +29,8 @@ section_by known s x traits = record {
 abbrev pub sections_by : Known → (ℕ → Traits) → ℕ → List Section → List PlacedSection
 sections_by known traits s [] = []
 sections_by known traits s (x ∷ xs) = section_by known s x (traits s) ∷ sections_by known traits (s + 1) xs
+
+-- the alignment of each section; the first section of the list has the number s
+abbrev pub alignments_by : (ℕ → Traits) → ℕ → List Section → List ℕ
+alignments_by traits s [] = []
+alignments_by traits s (x ∷ xs) = (traits s).alignment ∷ alignments_by traits (s + 1) xs

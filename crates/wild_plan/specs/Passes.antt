@@ -3,7 +3,7 @@ use Rattle.std.specs.Prelude.{◌≡◌, ◌⊎◌, List, Option, Some, None, Re
 use Rattle.std.specs.List.{list_any}
 use Rattle.wild_base.specs.Numbering.{is_named}
 use Rattle.wild_base.specs.declared.fault.Fault.{Fault}
-use Rattle.wild_base.specs.declared.fault.Fault.TheVariants.{DuplicateSection, NoMemory}
+use Rattle.wild_base.specs.declared.fault.Fault.TheVariants.{NoMemory}
 use Rattle.wild_plan_spec.specs.Names.{Name}
 
 -- memory ran out, or this is the fault that is wanted
@@ -15,6 +15,11 @@ pub record Passes (wanted : Option Fault) (result : Result (Unit {0}) Fault) : T
   pub ok : IfOk result (λ u. wanted ≡ None)
   pub err : IfErr result (IsWanted wanted)
 
--- the fault of a section whose name stands among these
-abbrev pub repeated : List Name → Name → Option Fault
-repeated names x = if list_any (is_named x) names then Some (DuplicateSection x) else None
+-- the same of a check that answers more
+pub record PassesWith {X : Type 0} (wanted : Option Fault) (result : Result X Fault) : Type 0 where
+  pub ok : IfOk result (λ x. wanted ≡ None)
+  pub err : IfErr result (IsWanted wanted)
+
+-- the fault of a name that stands among these
+abbrev pub repeated : (Name → Fault) → List Name → Name → Option Fault
+repeated fault names x = if list_any (is_named x) names then Some (fault x) else None

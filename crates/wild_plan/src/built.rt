@@ -1,4 +1,4 @@
-//! Which expressions are built in a statement of the location counter.
+//! Which expressions are built.
 
 ghost use Rattle.std.specs.Prelude.{◌≡◌, ◌&&◌};
 ghost use Rattle.wild_plan_spec.specs.Built as spec;
@@ -6,17 +6,18 @@ ghost use Rattle.wild_plan_spec.specs.Built as spec;
 use wild_script::Expression;
 
 #[cycle(building)]
-fn are_built(first: &Expression, second: &Expression) -> bool
-    ensures { result ≡ (spec.is_built first.now && spec.is_built second.now) }
+fn are_built(first: &Expression, second: &Expression, names: bool) -> bool
+    ensures { result ≡ (spec.is_built names first.now && spec.is_built names second.now) }
 {
-    is_built(first) && is_built(second)
+    is_built(first, names) && is_built(second, names)
 }
 
-/// Whether it is made of numbers, the location counter, operators, MIN, MAX and ALIGN.
+/// Whether it is made of numbers, the location counter, operators, MIN, MAX and ALIGN; where names are built, also of
+/// what names a symbol or a section, and of ASSERT.
 #[cycle(building)]
 #[tactic(auto, unfolding(wild_expression_tree::specs::Equality::opened))]
-pub fn is_built(expression: &Expression) -> bool
-    ensures { result ≡ spec.is_built expression.now }
+pub fn is_built(expression: &Expression, names: bool) -> bool
+    ensures { result ≡ spec.is_built names expression.now }
 {
     match expression {
         Expression::Number(_) | Expression::LocationCounter => true,
@@ -39,13 +40,20 @@ pub fn is_built(expression: &Expression) -> bool
         | Expression::Divide(x, y)
         | Expression::Modulo(x, y)
         | Expression::Min(x, y)
-        | Expression::Max(x, y) => are_built(x.get(), y.get()),
+        | Expression::Max(x, y) => are_built(x.get(), y.get(), names),
         Expression::LogicalNot(x) | Expression::BitwiseNot(x) | Expression::Negate(x) => {
-            is_built(x.get())
+            is_built(x.get(), names)
         }
-        Expression::Ternary(x, y, z) => is_built(x.get()) && are_built(y.get(), z.get()),
-        Expression::Align(x, None) => is_built(x.get()),
-        Expression::Align(x, Some(y)) => are_built(x.get(), y.get()),
+        Expression::Ternary(x, y, z) => is_built(x.get(), names) && are_built(y.get(), z.get(), names),
+        Expression::Align(x, None) => is_built(x.get(), names),
+        Expression::Align(x, Some(y)) => are_built(x.get(), y.get(), names),
+        Expression::Symbol(_)
+        | Expression::Sizeof(_)
+        | Expression::Alignof(_)
+        | Expression::Addr(_)
+        | Expression::Loadaddr(_)
+        | Expression::Defined(_) => names,
+        Expression::Assert(command) => names && is_built(command.expression.get(), names),
         _ => false,
     }
 }

@@ -1,21 +1,29 @@
 //! What is checked before a script and its rows are laid out.
 
-ghost use Rattle.std.specs.Prelude.{◌≡◌, [], ◌∷◌, ◌++◌, None, Some, OnOk, IfOk, IfErr};
+ghost use Rattle.std.specs.Prelude.{◌≡◌, [], ◌∷◌, ◌++◌, None, Some, OnOk, IfOk, IfErr, not};
+ghost use Rattle.std.specs.List.{list_any};
+ghost use Rattle.std.specs.Option.{option_copied};
+ghost use Rattle.wild_base.specs.Numbering.{is_named};
+ghost use Rattle.wild_base.specs.declared.fault.Fault.TheVariants.{DuplicateSection, DuplicateSymbol};
 ghost use Rattle.wild_plan_spec.specs.Rules.{chunk_of};
-ghost use Rattle.wild_plan_spec.specs.Checks.{row_checks, place_checks, name_checks, support_checks, is_plain, failing};
+ghost use Rattle.wild_plan_spec.specs.Checks.{row_checks, holds_offset, symbol_checks, is_task_built, is_place_built, place_checks, name_checks, support_checks, is_plain, failing};
+ghost use Rattle.wild_plan_spec.specs.Definitions.{entry_names};
+ghost use Rattle.wild_plan_spec.specs.Settings.{names_of};
+ghost use Rattle.wild_plan.specs.Entries.{shown_entries};
 ghost use Rattle.wild_plan.specs.Pointed.{pointed};
-ghost use Rattle.wild_plan.specs.Shown.{shown_place, shown};
-ghost use Rattle.wild_plan.specs.Passes.{Passes, IsWanted, repeated};
+ghost use Rattle.wild_plan.specs.Shown.{shown_task, shown_place, shown};
+ghost use Rattle.wild_plan.specs.Passes.{Passes, PassesWith, IsWanted, repeated};
 ghost use Rattle.wild_plan.specs.With.{AreChunks};
 
 use crate::built::is_built;
-use crate::places::Place;
+use crate::places::{Place, Task};
 use crate::rules::Rules;
 use bitflags::Flags;
 use sqlite_items::Items;
 use std::alloc::Global;
-use wild_base::{Alignment, Fault, InputFlags, Name, Numbering};
-use wild_plan_spec::{Chunk, InputRow};
+use wild_base::{Alignment, Fault, InputFlags, Name, NoMemory, Numbering};
+use wild_eval::Entry;
+use wild_plan_spec::{Chunk, InputRow, SymbolRow};
 use wild_script::Section;
 
 /// Checks that each row has an alignment. The fault is that of the first that has none.
@@ -30,15 +38,48 @@ pub fn check_rows(rows: &[InputRow]) -> Result<(), Fault>
     Ok(())
 }
 
-// The fault of a place whose expression is not built.
-fn check_place(index: usize, place: &Place<'_>) -> Result<(), Fault>
-    ensures { Passes (failing (place_checks index (shown_place place.now ∷ []))) result }
+// Whether there is a row, and the offset is not above its size.
+fn holds_offset(row: Option<&InputRow>, offset: u64) -> bool
+    ensures { result ≡ holds_offset (option_copied row.entry) offset }
 {
-    match place {
-        Place::SetLocation(expression) if !is_built(expression) => {
-            Err(Fault::Unsupported { index })
+    match row {
+        Some(row) => offset <= row.size,
+        None => false,
+    }
+}
+
+/// Checks that each symbol of a table lies in a row. The fault is that of the first that does not.
+pub fn check_symbols(rows: &[InputRow], symbols: &[SymbolRow]) -> Result<(), Fault>
+    ensures { Passes (failing (symbol_checks rows.now 0 symbols.now)) result }
+{
+    for (number, symbol) in symbols.iter().enumerate() {
+        if !holds_offset(rows.get(symbol.row), symbol.offset) {
+            return Err(Fault::BadSymbolRow {
+                symbol: number as u64,
+            });
         }
-        _ => Ok(()),
+    }
+    Ok(())
+}
+
+fn is_task_built(task: Option<Task<'_>>) -> bool
+    ensures { result ≡ is_task_built (shown_task task.entry) }
+{
+    match task {
+        None => true,
+        Some(Task::Assign(_, value)) => is_built(value, true),
+        Some(Task::Provide(definition)) => is_built(&definition.value, true),
+        Some(Task::Locate(address)) => is_built(address, true),
+        Some(Task::Check(command)) => is_built(command.expression.get(), true),
+    }
+}
+
+fn is_place_built(place: &Place<'_>) -> bool
+    ensures { result ≡ is_place_built (shown_place place.now) }
+{
+    match *place {
+        Place::SetLocation(expression) => is_built(expression, false),
+        _ => is_task_built(place.task()),
     }
 }
 
@@ -47,34 +88,74 @@ pub fn check_places(places: &[Place<'_>]) -> Result<(), Fault>
     ensures { Passes (failing (place_checks 0 (shown places.now))) result }
 {
     for (index, place) in places.iter().enumerate() {
-        check_place(index, place)?;
+        if !is_place_built(place) {
+            return Err(Fault::Unsupported { index });
+        }
     }
     Ok(())
 }
 
-/// Puts a name behind the others, unless it stands among them.
+/// Puts a name behind the others. Answers whether none of them was the same.
 #[tactic(auto, using(crate::proofs::Names::any_number))]
-fn push_name(alloc: Global, names: &mut Numbering, name: &Name) -> Result<(), Fault>
+fn push_name(alloc: Global, names: &mut Numbering, name: &Name) -> Result<bool, NoMemory>
     ensures pushed { OnOk result (names.new ≡ names.old ++ name.now ∷ []) }
-    ensures passes { Passes (repeated names.old name.now) result }
+    ensures first { IfOk result (λ first. first ≡ not (list_any (is_named name.now) names.old)) }
 {
-    if names.get(name).is_some() {
-        let name = name.copy(alloc)?;
-        return Err(Fault::DuplicateSection { name });
-    }
+    let first = names.get(name).is_none();
     names.push(alloc, name)?;
-    Ok(())
+    Ok(first)
 }
 
-/// Checks that no two sections have one name. The fault is that of the first with the name of an earlier one.
-pub fn check_names(alloc: Global, sections: &[&Section]) -> Result<(), Fault>
-    ensures { Passes (failing (name_checks [] (pointed sections.now))) result }
+fn push_section(alloc: Global, names: &mut Numbering, section: &Section) -> Result<(), Fault>
+    ensures pushed { OnOk result (names.new ≡ names.old ++ section.now.output_section_name ∷ []) }
+    ensures passes { Passes (repeated DuplicateSection names.old section.now.output_section_name) result }
+{
+    let name = &section.output_section_name;
+    if push_name(alloc, names, name)? {
+        Ok(())
+    } else {
+        let name = name.copy(alloc)?;
+        Err(Fault::DuplicateSection { name })
+    }
+}
+
+fn push_symbol(alloc: Global, names: &mut Numbering, entry: &Entry<'_>) -> Result<(), Fault>
+    ensures pushed { OnOk result (names.new ≡ names.old ++ entry.now.name.now ∷ []) }
+    ensures passes { Passes (repeated DuplicateSymbol names.old entry.now.name.now) result }
+{
+    let name = entry.name;
+    if push_name(alloc, names, name)? {
+        Ok(())
+    } else {
+        let name = name.copy(alloc)?;
+        Err(Fault::DuplicateSymbol { name })
+    }
+}
+
+/// The names of the sections, of which no two are the same. The fault is that of the first with the name of an earlier
+/// one.
+pub fn number_sections(alloc: Global, sections: &[&Section]) -> Result<Numbering, Fault>
+    ensures names { IfOk result (λ names. names ≡ names_of (pointed sections.now)) }
+    ensures passes { PassesWith (failing (name_checks DuplicateSection [] (names_of (pointed sections.now)))) result }
 {
     let mut names = Numbering::new(alloc);
     for section in sections {
-        push_name(alloc, &mut names, &section.output_section_name)?;
+        push_section(alloc, &mut names, section)?;
     }
-    Ok(())
+    Ok(names)
+}
+
+/// The names of the entries, of which no two are the same. The fault is that of the first with the name of an earlier
+/// one.
+pub fn number_entries(alloc: Global, entries: &[Entry<'_>]) -> Result<Numbering, Fault>
+    ensures names { IfOk result (λ names. names ≡ entry_names (shown_entries entries.now)) }
+    ensures passes { PassesWith (failing (name_checks DuplicateSymbol [] (entry_names (shown_entries entries.now)))) result }
+{
+    let mut names = Numbering::new(alloc);
+    for entry in entries {
+        push_symbol(alloc, &mut names, entry)?;
+    }
+    Ok(names)
 }
 
 /// It is in memory, and neither without bits, nor thread-local, nor excluded.

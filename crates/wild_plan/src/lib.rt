@@ -4,12 +4,15 @@
 mod built;
 mod check;
 mod chunks;
+mod definitions;
+mod ends;
 mod listing;
 mod overlap;
 mod placement;
 mod places;
 mod planning;
 mod rules;
+mod statements;
 mod traits;
 mod walk;
 
@@ -17,6 +20,6 @@ pub use placement::Plan;
 pub use planning::plan;
 pub use wild_plan_spec::{
     Chunk, InputRow, InputRows, InputTable, Names, PlacedInput, PlacedLocation, PlacedSection,
-    RowNames,
+    PlacedSymbol, PlanOptions, RowNames, SymbolRow, SymbolRows,
 };
 pub use wild_plan_text::{address_text, fault_text, name_text};

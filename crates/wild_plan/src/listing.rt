@@ -1,20 +1,24 @@
 //! What a plan lists, once all places are laid out.
 
-ghost use Rattle.std.specs.Prelude.{◌≡◌, IfOk};
-ghost use Rattle.wild_plan_spec.specs.Layout.{row_names};
+ghost use Rattle.std.specs.Prelude.{◌≡◌, ◌++◌, OnOk, IfOk};
+ghost use Rattle.wild_plan_spec.specs.Layout.{row_names, table_symbol, table_symbols};
 ghost use Rattle.wild_plan.specs.Listed.{flags_by, section_by, sections_by};
 ghost use Rattle.wild_plan.specs.Pointed.{pointed};
 ghost use Rattle.wild_eval.specs.Table.{known_of};
 ghost use Rattle.wild_plan.specs.Traits.{traits_at};
 ghost use Rattle.wild_plan.specs.With.{placed_with};
 
+use crate::definitions::symbol_chunk;
+use crate::rules::Rules;
 use crate::traits::{SectionTraits, Traits};
 use bitflags::Flags;
 use sqlite_items::Items;
 use std::alloc::Global;
 use wild_base::{InputFlags, NoMemory};
 use wild_eval::Table;
-use wild_plan_spec::{Chunk, InputRow, PlacedInput, PlacedSection, RowNames};
+use wild_plan_spec::{
+    Chunk, InputRow, InputTable, PlacedInput, PlacedSection, PlacedSymbol, RowNames, SymbolRow,
+};
 use wild_script::Section;
 
 /// In memory, and writable or executable where a row is.
@@ -110,4 +114,44 @@ pub fn row_names(alloc: Global, rows: &[InputRow]) -> Result<Items<RowNames>, No
         names.push(names_of(alloc, row)?)?;
     }
     Ok(names)
+}
+
+// A symbol of the table, in the chunk of its row. No row passes 2 ^ 64, so the sum does not wrap.
+fn push_symbol(
+    alloc: Global,
+    symbols: &mut Items<PlacedSymbol>,
+    table: &Table,
+    symbol: &SymbolRow,
+    chunk: Option<Chunk>,
+) -> Result<(), NoMemory>
+    ensures { OnOk result (symbols.new ≡ symbols.old ++ table_symbol (known_of table.now) symbol.now chunk) }
+{
+    let Some(chunk) = chunk else {
+        return Ok(());
+    };
+    let name = symbol.name.copy(alloc)?;
+    symbols.push(PlacedSymbol {
+        name,
+        address: table.address(symbol.row).wrapping_add(symbol.offset),
+        section: Some(chunk.section),
+        hidden: false,
+    })?;
+    Ok(())
+}
+
+/// The symbols of the table, in table order.
+pub fn placed_symbols(
+    alloc: Global,
+    table: &Table,
+    rules: &Rules,
+    inputs: &InputTable,
+) -> Result<Items<PlacedSymbol>, NoMemory>
+    ensures { IfOk result (λ symbols. symbols ≡ table_symbols (known_of table.now) rules.now inputs.now.rows inputs.now.symbols) }
+{
+    let rows = inputs.rows.as_slice();
+    let mut symbols = Items::new(alloc);
+    for symbol in inputs.symbols.as_slice() {
+        push_symbol(alloc, &mut symbols, table, symbol, symbol_chunk(rules, rows, symbol))?;
+    }
+    Ok(symbols)
 }

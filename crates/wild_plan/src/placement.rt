@@ -8,18 +8,25 @@ use sqlite_items::Items;
 use std::alloc::Global;
 use std::marker::Model;
 use wild_base::{Name, NoMemory};
-use wild_plan_spec::{PlacedInput, PlacedLocation, PlacedSection, RowNames};
+use wild_plan_spec::{PlacedInput, PlacedLocation, PlacedSection, PlacedSymbol, RowNames};
 use wild_plan_text::lines_text;
 use wild_script::LinkerScript;
+
+/// What a plan lists beside its script.
+#[derive(Debug, Drop)]
+pub struct Lists {
+    pub sections: Items<PlacedSection>,
+    pub placements: Items<PlacedInput>,
+    pub locations: Items<PlacedLocation>,
+    pub symbols: Items<PlacedSymbol>,
+    pub names: Items<RowNames>,
+}
 
 /// A plan: the tree of its script, and what it lists.
 #[derive(Debug, Drop)]
 pub struct Plan {
     script: LinkerScript,
-    sections: Items<PlacedSection>,
-    placements: Items<PlacedInput>,
-    locations: Items<PlacedLocation>,
-    names: Items<RowNames>,
+    lists: Lists,
 }
 
 impl Model for Plan {
@@ -31,27 +38,15 @@ impl Model for Plan {
 
     ghost coded = { Prim.hlevel (codes, e.the_row.coded) };
 
-    ghost view = { λ p. record { script = p.script; sections = p.sections; placements = p.placements; locations = p.locations; names = p.names } };
+    ghost view = { λ p. record { script = p.script; sections = p.lists.sections; placements = p.lists.placements; locations = p.lists.locations; symbols = p.lists.symbols; names = p.lists.names } };
 }
 
 impl Plan {
     /// A plan of these lists.
-    pub(crate) fn new(
-        script: LinkerScript,
-        sections: Items<PlacedSection>,
-        placements: Items<PlacedInput>,
-        locations: Items<PlacedLocation>,
-        names: Items<RowNames>,
-    ) -> Plan
-        ensures { result ≡ record { script = script; sections = sections; placements = placements; locations = locations; names = names } }
+    pub(crate) fn new(script: LinkerScript, lists: Lists) -> Plan
+        ensures { result ≡ record { script = script; sections = lists.sections; placements = lists.placements; locations = lists.locations; symbols = lists.symbols; names = lists.names } }
     {
-        Plan {
-            script,
-            sections,
-            placements,
-            locations,
-            names,
-        }
+        Plan { script, lists }
     }
 
     /// The tree of the script.
@@ -65,21 +60,28 @@ impl Plan {
     pub fn sections(&self) -> &[PlacedSection]
         ensures { result.now ≡ self.now.sections }
     {
-        self.sections.as_slice()
+        self.lists.sections.as_slice()
     }
 
     /// Where each row of the table went, in table order.
     pub fn placements(&self) -> &[PlacedInput]
         ensures { result.now ≡ self.now.placements }
     {
-        self.placements.as_slice()
+        self.lists.placements.as_slice()
     }
 
     /// What each statement made of the location counter, in text order.
     pub fn locations(&self) -> &[PlacedLocation]
         ensures { result.now ≡ self.now.locations }
     {
-        self.locations.as_slice()
+        self.lists.locations.as_slice()
+    }
+
+    /// The symbols of the table in table order, then those of the script in text order.
+    pub fn symbols(&self) -> &[PlacedSymbol]
+        ensures { result.now ≡ self.now.symbols }
+    {
+        self.lists.symbols.as_slice()
     }
 
     /// The file of a row.
@@ -87,7 +89,7 @@ impl Plan {
         requires { row < length self.now.names }
         ensures { (names : RowNames) → slice_get self.now.names row ≡ Some names → result.now ≡ names.file }
     {
-        &self.names.as_slice()[row].file
+        &self.lists.names.as_slice()[row].file
     }
 
     /// The section name of a row.
@@ -95,10 +97,11 @@ impl Plan {
         requires { row < length self.now.names }
         ensures { (names : RowNames) → slice_get self.now.names row ≡ Some names → result.now ≡ names.«section» }
     {
-        &self.names.as_slice()[row].section
+        &self.lists.names.as_slice()[row].section
     }
 
-    /// The plan as it is printed: a line for each section, then one for each row, then one for each location.
+    /// The plan as it is printed: a line for each section, then for each row, then for each location, then for
+    /// each symbol.
     pub fn plan_text(&self, alloc: Global) -> Result<Name, NoMemory>
         ensures { IfOk result (λ text. text ≡ plan_text self.now) }
     {
@@ -106,8 +109,9 @@ impl Plan {
             alloc,
             self.sections(),
             self.placements(),
-            self.names.as_slice(),
+            self.lists.names.as_slice(),
             self.locations(),
+            self.symbols(),
         )
     }
 }

@@ -1,22 +1,41 @@
 //! The places of a script, as one numbered list.
 
 ghost use Rattle.std.specs.Prelude.{◌≡◌, ◌<◌, ◌+◌, ◌^◌, [], ◌∷◌, ◌++◌, OnOk, IfOk};
-ghost use Rattle.wild_plan_spec.specs.Places.{contents_places, section_places, statement_places, next_section, all_places};
-ghost use Rattle.wild_plan.specs.Pointed.{pointed};
-ghost use Rattle.wild_plan.specs.Shown.{shown, shown_place};
+ghost use Rattle.wild_plan_spec.specs.Places.{task_of, contents_places, section_places, inner_places, outer_places, statement_places, next_section, all_places};
+ghost use Rattle.wild_plan.specs.Shown.{shown, shown_place, shown_task, shown_statement, shown_statements};
 
+use crate::statements::Statement;
 use sqlite_items::Items;
 use std::alloc::Global;
-use wild_base::NoMemory;
+use wild_base::{Name, NoMemory};
 use wild_plan_spec::Chunk;
-use wild_script::{ContentsCommand, Expression, Section, SectionCommand};
+use wild_script::{
+    AssertCommand, Command, ContentsCommand, Expression, ProvideSymbolDefinition, Section,
+    SectionCommand,
+};
 
-/// A place of a script. A statement of the location counter has one; a section has an Open, the places of its
-/// statements, and a Close.
+/// What is evaluated once all places are laid out.
+#[derive(Clone, Copy, Debug)]
+pub enum Task<'a> {
+    /// A symbol becomes the value of the expression.
+    Assign(&'a Name, &'a Expression),
+    /// The same, where nothing else defines it.
+    Provide(&'a ProvideSymbolDefinition),
+    /// The location counter becomes that outside of SECTIONS, where it has no effect.
+    Locate(&'a Expression),
+    /// The condition must hold.
+    Check(&'a AssertCommand),
+}
+
+/// A place of a script. A section has an Open, the places of its statements, and a Close; any other statement has one.
 #[derive(Clone, Copy, Debug)]
 pub enum Place<'a> {
     /// The location counter becomes the value of the expression.
     SetLocation(&'a Expression),
+    /// A task in SECTIONS.
+    Within(Task<'a>),
+    /// The task of an outermost statement.
+    Outside(Task<'a>),
     /// The section of this number begins.
     Open(usize),
     /// The rows of a chunk.
@@ -25,8 +44,20 @@ pub enum Place<'a> {
     Close(usize),
 }
 
+impl<'a> Place<'a> {
+    /// The task of the place.
+    pub fn task(&self) -> Option<Task<'a>>
+        ensures { shown_task result ≡ task_of (shown_place self.now) }
+    {
+        match *self {
+            Place::Within(task) | Place::Outside(task) => Some(task),
+            _ => None,
+        }
+    }
+}
+
 #[tactic(auto, using(crate::proofs::Shown::shown_append))]
-fn push_place<'a>(places: &mut Items<Place<'a>>, place: Place<'a>) -> Result<(), NoMemory>
+fn push<'a>(places: &mut Items<Place<'a>>, place: Place<'a>) -> Result<(), NoMemory>
     ensures { OnOk result (shown places.new ≡ shown places.old ++ shown_place place.entry ∷ []) }
 {
     places.push(place)?;
@@ -44,7 +75,7 @@ fn push_contents(
     for command in commands {
         match command {
             ContentsCommand::Matcher(_) => {
-                push_place(places, Place::Rows(Chunk { section, number }))?;
+                push(places, Place::Rows(Chunk { section, number }))?;
                 number += 1;
             }
         }
@@ -59,45 +90,87 @@ fn push_section(
 ) -> Result<(), NoMemory>
     ensures { OnOk result (shown places.new ≡ shown places.old ++ section_places number section.now) }
 {
-    push_place(places, Place::Open(number))?;
+    push(places, Place::Open(number))?;
     push_contents(places, number, section.commands.as_slice())?;
-    push_place(places, Place::Close(number))?;
+    push(places, Place::Close(number))?;
     Ok(())
 }
 
-// Answers the number of the next section.
+fn push_inner<'a>(
+    places: &mut Items<Place<'a>>,
+    number: usize,
+    command: &'a SectionCommand,
+) -> Result<(), NoMemory>
+    ensures { OnOk result (shown places.new ≡ shown places.old ++ inner_places number command.now) }
+{
+    match command {
+        SectionCommand::Section(section) => push_section(places, number, section.get()),
+        SectionCommand::SetLocation(location) => {
+            push(places, Place::SetLocation(&location.address))
+        }
+        SectionCommand::SymbolAssignment(assignment) => push(
+            places,
+            Place::Within(Task::Assign(&assignment.name, &assignment.expr)),
+        ),
+        SectionCommand::Provide(definition) => {
+            push(places, Place::Within(Task::Provide(definition)))
+        }
+        SectionCommand::Assert(command) => push(places, Place::Within(Task::Check(command))),
+    }
+}
+
+fn push_outer<'a>(places: &mut Items<Place<'a>>, command: &'a Command) -> Result<(), NoMemory>
+    ensures { OnOk result (shown places.new ≡ shown places.old ++ outer_places command.now) }
+{
+    match command {
+        Command::SymbolDefinition { name, value } => {
+            push(places, Place::Outside(Task::Assign(name, value)))
+        }
+        Command::SetLocation(location) => {
+            push(places, Place::Outside(Task::Locate(&location.address)))
+        }
+        Command::Provide(definition) => push(places, Place::Outside(Task::Provide(definition))),
+        Command::Assert(command) => push(places, Place::Outside(Task::Check(command))),
+        Command::Sections(_) => Ok(()),
+    }
+}
+
 fn push_statement<'a>(
     places: &mut Items<Place<'a>>,
     number: usize,
-    statement: &'a SectionCommand,
-) -> Result<usize, NoMemory>
-    requires { number + 1 < 2 ^ 64 }
-    ensures pushed { OnOk result (shown places.new ≡ shown places.old ++ statement_places number statement.now) }
-    ensures number { IfOk result (λ n. n ≡ next_section number statement.now) }
+    statement: &Statement<'a>,
+) -> Result<(), NoMemory>
+    ensures { OnOk result (shown places.new ≡ shown places.old ++ statement_places number (shown_statement statement.now)) }
 {
-    match statement {
-        SectionCommand::Section(section) => {
-            push_section(places, number, section.get())?;
-            Ok(number + 1)
-        }
-        SectionCommand::SetLocation(location) => {
-            push_place(places, Place::SetLocation(&location.address))?;
-            Ok(number)
-        }
+    match *statement {
+        Statement::Inner(command) => push_inner(places, number, command),
+        Statement::Outer(command) => push_outer(places, command),
+    }
+}
+
+// The number of the next section behind a statement.
+fn next_section(number: usize, statement: &Statement<'_>) -> usize
+    requires { number + 1 < 2 ^ 64 }
+    ensures { result ≡ next_section number (shown_statement statement.now) }
+{
+    match *statement {
+        Statement::Inner(SectionCommand::Section(_)) => number + 1,
+        _ => number,
     }
 }
 
 /// The places of these statements, whose sections are numbered in order from 0. Fails where memory runs out.
 pub fn find_places<'a>(
     alloc: Global,
-    statements: &[&'a SectionCommand],
+    statements: &[Statement<'a>],
 ) -> Result<Items<Place<'a>>, NoMemory>
-    ensures { IfOk result (λ places. shown places ≡ all_places 0 (pointed statements.now)) }
+    ensures { IfOk result (λ places. shown places ≡ all_places 0 (shown_statements statements.now)) }
 {
     let mut places = Items::new(alloc);
     let mut number = 0;
     for statement in statements {
-        number = push_statement(&mut places, number, statement)?;
+        push_statement(&mut places, number, statement)?;
+        number = next_section(number, statement);
     }
     Ok(places)
 }

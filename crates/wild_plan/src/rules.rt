@@ -1,7 +1,7 @@
-//! The sections of a script, and the rules by which it collects input sections.
+//! The rules by which a script collects input sections.
 
-ghost use Rattle.std.specs.Prelude.{◌≡◌, [], ◌∷◌, ◌++◌, OnOk, IfOk};
-ghost use Rattle.wild_plan_spec.specs.Rules.{statements_of, statement_sections, pattern_rules, contents_rules, section_rules, chunk_of};
+ghost use Rattle.std.specs.Prelude.{◌≡◌, [], ◌∷◌, ◌++◌, IfOk};
+ghost use Rattle.wild_plan_spec.specs.Rules.{pattern_rules, contents_rules, section_rules, chunk_of};
 ghost use Rattle.wild_plan.specs.Pointed.{pointed};
 
 use sqlite_items::Items;
@@ -9,75 +9,7 @@ use std::alloc::Global;
 use std::marker::Model;
 use wild_base::{Name, NoMemory, Numbering};
 use wild_plan_spec::Chunk;
-use wild_script::{
-    Command, ContentsCommand, LinkerScript, Section, SectionCommand, SectionPattern,
-};
-
-#[tactic(auto, using(crate::proofs::Pointed::pointed_append))]
-fn push_statement<'a>(
-    statements: &mut Items<&'a SectionCommand>,
-    statement: &'a SectionCommand,
-) -> Result<(), NoMemory>
-    ensures { OnOk result (pointed statements.new ≡ pointed statements.old ++ statement.now ∷ []) }
-{
-    statements.push(statement)?;
-    Ok(())
-}
-
-fn push_statements<'a>(
-    statements: &mut Items<&'a SectionCommand>,
-    commands: &'a [SectionCommand],
-) -> Result<(), NoMemory>
-    ensures { OnOk result (pointed statements.new ≡ pointed statements.old ++ commands.now) }
-{
-    for command in commands {
-        push_statement(statements, command)?;
-    }
-    Ok(())
-}
-
-/// The statements of a script in text order, whichever SECTIONS they stand in. Fails where memory runs out.
-pub fn statements(alloc: Global, script: &LinkerScript) -> Result<Items<&SectionCommand>, NoMemory>
-    ensures { IfOk result (λ statements. pointed statements ≡ statements_of script.now) }
-{
-    let mut statements = Items::new(alloc);
-    for command in script.commands.as_slice() {
-        match command {
-            Command::Sections(list) => {
-                push_statements(&mut statements, list.commands.as_slice())?
-            }
-        }
-    }
-    Ok(statements)
-}
-
-// Puts the section that a statement is behind the others, if it is one.
-#[tactic(auto, using(crate::proofs::Pointed::pointed_append))]
-fn push_section<'a>(
-    sections: &mut Items<&'a Section>,
-    statement: &'a SectionCommand,
-) -> Result<(), NoMemory>
-    ensures { OnOk result (pointed sections.new ≡ pointed sections.old ++ statement_sections (statement.now ∷ [])) }
-{
-    match statement {
-        SectionCommand::Section(section) => Ok(sections.push(section.get())?),
-        SectionCommand::SetLocation(_) => Ok(()),
-    }
-}
-
-/// The sections among these statements. Fails where memory runs out.
-pub fn sections<'a>(
-    alloc: Global,
-    statements: &[&'a SectionCommand],
-) -> Result<Items<&'a Section>, NoMemory>
-    ensures { IfOk result (λ sections. pointed sections ≡ statement_sections (pointed statements.now)) }
-{
-    let mut sections = Items::new(alloc);
-    for statement in statements {
-        push_section(&mut sections, statement)?;
-    }
-    Ok(sections)
-}
+use wild_script::{ContentsCommand, Section, SectionPattern};
 
 /// Which chunk an input section goes to, by its name. Contracts see it as a list of rules.
 #[derive(Drop)]

@@ -3,26 +3,25 @@
 ghost use Rattle.std.specs.Prelude.{◌≡◌, ◌⊎◌, ℕ, length, IfOk, IfErr};
 ghost use Rattle.wild_base.specs.declared.fault.Fault.TheVariants as fault;
 ghost use Rattle.wild_value_spec.specs.Answer.{Returns};
+ghost use Rattle.wild_value_spec.specs.Value.{sum_of};
 ghost use Rattle.wild_eval.specs.Setting.{setting_of};
 ghost use Rattle.wild_plan_spec.specs.Chunks.{largest};
-ghost use Rattle.wild_plan_spec.specs.Line.{first_state, up, sum_of, opened, row_placed, rows_placed, chunk_placed, ended, closed, location_set, line};
+ghost use Rattle.wild_plan_spec.specs.Line.{first_state, up, opened, row_placed, rows_placed, chunk_placed, ended, closed, location_set, passed, line};
 ghost use Rattle.wild_plan_spec.specs.Walk.{Stands, Refuses};
 ghost use Rattle.wild_plan.specs.Chunks.{rows_at};
 ghost use Rattle.wild_plan.specs.Moves.{Moves, state_of};
 ghost use Rattle.wild_plan.specs.Shown.{shown_place, shown};
-ghost use Rattle.wild_plan.specs.Traits.{traits_at};
 
 use crate::chunks::Chunks;
+use crate::definitions::point_of;
 use crate::overlap::sharing;
 use crate::places::Place;
-use crate::traits::SectionTraits;
 use sqlite_items::Items;
 use std::alloc::Global;
 use wild_base::{Alignment, Fault, Name, NoMemory, alignment};
-use wild_eval::{Reader, Table};
+use wild_eval::{Names, Path, Reader, Table};
 use wild_plan_spec::{ChunkRow, PlacedLocation};
 use wild_script::Expression;
-use wild_value_spec::Point;
 
 /// What stands before a place.
 #[derive(Drop)]
@@ -49,7 +48,7 @@ fn up(number: u64, alignment: Alignment) -> Result<u64, Fault>
     }
 }
 
-#[tactic(auto, unfolding(wild_plan_spec::specs::Line::sum_of))]
+#[tactic(auto, unfolding(wild_value_spec::specs::Value::sum_of))]
 fn sum(left: u64, right: u64) -> Result<u64, Fault>
     ensures { Returns result (sum_of left right) }
 {
@@ -70,23 +69,13 @@ fn largest(rows: &[ChunkRow]) -> Alignment
     most
 }
 
-/// The name of a section, or the empty one where there is none of this number.
-fn section_name(alloc: Global, names: &[&Name], section: usize) -> Result<Name, NoMemory>
-    ensures { IfOk result (λ name. name ≡ (setting_of names.now).section_name section) }
-{
-    match names.get(section) {
-        Some(name) => name.copy(alloc),
-        None => Name::new(alloc, b""),
-    }
-}
-
 /// The fault of two sections that share an address.
-fn overlap(alloc: Global, names: &[&Name], first: usize, second: usize) -> Result<Fault, NoMemory>
+fn overlap(alloc: Global, names: &Names<'_>, first: usize, second: usize) -> Result<Fault, NoMemory>
     ensures { IfOk result (λ f. f ≡ fault.Overlap ((setting_of names.now).section_name first) ((setting_of names.now).section_name second)) }
 {
     Ok(Fault::Overlap {
-        first: section_name(alloc, names, first)?,
-        second: section_name(alloc, names, second)?,
+        first: Name::new(alloc, names.name_of(first))?,
+        second: Name::new(alloc, names.name_of(second))?,
     })
 }
 
@@ -151,7 +140,7 @@ impl Walk {
     }
 
     #[tactic(auto, unfolding(wild_plan_spec::specs::Line::closed))]
-    fn close(&mut self, alloc: Global, names: &[&Name], section: usize) -> Result<(), Fault>
+    fn close(&mut self, alloc: Global, names: &Names<'_>, section: usize) -> Result<(), Fault>
         ensures { Moves result self.new (closed (setting_of names.now) section (state_of self.old)) }
     {
         let start = self.table.start(section);
@@ -165,7 +154,7 @@ impl Walk {
     fn set_location(
         &mut self,
         alloc: Global,
-        names: &[&Name],
+        names: &Names<'_>,
         place: usize,
         expression: &Expression,
     ) -> Result<(), Fault>
@@ -178,13 +167,7 @@ impl Walk {
             table: &self.table,
             statement: place,
         };
-        let address = reader.full(
-            expression,
-            Point {
-                place,
-                section: None,
-            },
-        )?;
+        let address = reader.full(&Path::Start, expression, point_of(place))?;
         self.locations.push(PlacedLocation {
             statement: place,
             address,
@@ -193,15 +176,26 @@ impl Walk {
         Ok(())
     }
 
+    // A place that waits until all are laid out.
+    #[tactic(auto, unfolding(wild_plan_spec::specs::Line::passed))]
+    fn pass(&mut self, place: usize, dot: u64) -> Result<(), Fault>
+        ensures { Moves result self.new (passed place dot (state_of self.old)) }
+    {
+        self.table.learn_dot(place, dot)?;
+        Ok(())
+    }
+
     #[tactic(auto, unfolding(wild_plan_spec::specs::Line::line))]
     fn step(&mut self, given: &Given<'_>, number: usize, place: &Place<'_>) -> Result<(), Fault>
-        ensures { Moves result self.new (line (setting_of given.now.names.now) (λ s. (traits_at given.now.traits.now s).alignment) (rows_at given.now.chunks.now) number (shown_place place.now) (state_of self.old)) }
+        ensures { Moves result self.new (line (setting_of given.now.names.now) (rows_at given.now.chunks.now) number (shown_place place.now) (state_of self.old)) }
     {
         match *place {
             Place::SetLocation(expression) => {
                 self.set_location(given.alloc, given.names, number, expression)
             }
-            Place::Open(section) => self.open(section, given.traits.get(section).alignment),
+            Place::Within(_) => self.pass(number, self.counter),
+            Place::Outside(_) => self.pass(number, 0),
+            Place::Open(section) => self.open(section, given.names.alignment(section)),
             Place::Rows(chunk) => self.place_chunk(given.chunks.rows(chunk)),
             Place::Close(section) => self.close(given.alloc, given.names, section),
         }
@@ -212,16 +206,15 @@ impl Walk {
 #[derive(Drop)]
 pub struct Given<'a> {
     pub alloc: Global,
-    /// The names of the sections, in order.
-    pub names: &'a [&'a Name],
-    pub traits: &'a SectionTraits,
+    /// The sections and the symbols.
+    pub names: &'a Names<'a>,
     pub chunks: &'a Chunks,
 }
 
 /// Lays out the places: what stands behind the last one, or the fault of the first that refuses.
 pub fn lay_out(given: &Given<'_>, places: &[Place<'_>]) -> Result<Walk, Fault>
-    ensures laid_out { IfOk result (λ walk. Stands (setting_of given.now.names.now) (λ s. (traits_at given.now.traits.now s).alignment) (rows_at given.now.chunks.now) (shown places.now) (length (shown places.now)) (state_of walk)) }
-    ensures refused { IfErr result (λ f. (f ≡ fault.NoMemory) ⊎ Refuses (setting_of given.now.names.now) (λ s. (traits_at given.now.traits.now s).alignment) (rows_at given.now.chunks.now) (shown places.now) f) }
+    ensures laid_out { IfOk result (λ walk. Stands (setting_of given.now.names.now) (rows_at given.now.chunks.now) (shown places.now) (length (shown places.now)) (state_of walk)) }
+    ensures refused { IfErr result (λ f. (f ≡ fault.NoMemory) ⊎ Refuses (setting_of given.now.names.now) (rows_at given.now.chunks.now) (shown places.now) f) }
 {
     let mut walk = Walk::new(given.alloc);
     for (number, place) in places.iter().enumerate() {

@@ -1,6 +1,7 @@
 -- The definitions of symbols.
 use Rattle.std.specs.Prelude.{ℕ, ◌+◌, List, [], ◌∷◌, ◌++◌, Option, Some, None, slice_get}
 use Rattle.wild_base.specs.Numbering.{number_of}
+use Rattle.wild_script.specs.declared.tree.ProvideSymbolDefinition.{ProvideSymbolDefinition}
 use Rattle.wild_value_spec.specs.declared.value.Point.{Point}
 use Rattle.wild_value_spec.specs.Setting.{Definition, OfRow, OfScript}
 use Rattle.wild_plan_spec.specs.declared.chunk.Chunk.{Chunk}
@@ -55,8 +56,11 @@ abbrev pub assigned_entries : ℕ → List Place → List Entry
 assigned_entries i [] = []
 assigned_entries i (p ∷ ps) = assigned_by i (task_of p) ++ assigned_entries (i + 1) ps
 
+abbrev pub provide_entry : ℕ → ProvideSymbolDefinition → List Entry
+provide_entry i d = entry_of d.name (OfScript d.value (point_of i))
+
 abbrev pub provided_by : ℕ → Option Task → List Entry
-provided_by i (Some (Provide d)) = entry_of d.name (OfScript d.value (point_of i))
+provided_by i (Some (Provide d)) = provide_entry i d
 provided_by i task = []
 
 -- the PROVIDEs

@@ -1,6 +1,7 @@
 -- What is evaluated once all places are laid out, over what is then known: the symbols of the script, then its ASSERTs.
 use Rattle.std.specs.Prelude.{ℕ, ◌+◌, Bool, true, false, ◌==◌, if◌then◌else◌, List, [], ◌∷◌, ◌++◌, Option, Some, None, Result, Ok, Err}
 use Rattle.wild_base.specs.declared.fault.Fault.{Fault}
+use Rattle.wild_expression_tree.specs.declared.tree.AssertCommand.{AssertCommand}
 use Rattle.wild_expression_tree.specs.declared.tree.Expression.{Expression}
 use Rattle.wild_script.specs.declared.tree.ProvideSymbolDefinition.{ProvideSymbolDefinition}
 use Rattle.wild_value_spec.specs.Answer.{◌>>=◌}
@@ -60,8 +61,11 @@ module _ (setting : Setting) (known : Known) where
   -- ---- conditions
 
   -- the condition of an ASSERT is not 0
+  abbrev pub tested_at : ℕ → AssertCommand → Result (Unit {0}) Fault
+  tested_at i c = tested setting i known c (point_of i) >>= (λ x. Ok tt)
+
   unfoldable pub task_holds : ℕ → Option Task → Result (Unit {0}) Fault
-  task_holds i (Some (Check c)) = tested setting i known c (point_of i) >>= (λ x. Ok tt)
+  task_holds i (Some (Check c)) = tested_at i c
   task_holds i (Some (Assign name e)) = Ok tt
   task_holds i (Some (Provide d)) = Ok tt
   task_holds i (Some (Locate e)) = Ok tt

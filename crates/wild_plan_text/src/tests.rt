@@ -3,12 +3,29 @@ use sqlite_items::Items;
 use std::alloc::Global;
 use std::test::Fail;
 use wild_base::{Fault, InputFlags, Name, NoMemory, alignment};
-use wild_plan_spec::{PlacedInput, PlacedLocation, PlacedSection, RowNames};
+use wild_plan_spec::{PlacedInput, PlacedLocation, PlacedSection, PlacedSymbol, RowNames};
 
 const LINES: &str =
     "section .a 0x0000000000000000 0x0000000000000000 0x0000000000000010 8 A - - -\n\
                      input 0 0x0000000000000000 .a f.o .text\n\
-                     location 3 0x0000000000000010\n";
+                     location 3 0x0000000000000010\n\
+                     symbol x 0x0000000000000004 .a default\n\
+                     symbol - 0x0000000000000010 - hidden\n";
+
+fn symbol(
+    alloc: Global,
+    name: &[u8],
+    address: u64,
+    section: Option<usize>,
+    hidden: bool,
+) -> Result<PlacedSymbol, NoMemory> {
+    Ok(PlacedSymbol {
+        name: Name::new(alloc, name)?,
+        address,
+        section,
+        hidden,
+    })
+}
 
 fn lines(alloc: Global) -> Result<Name, NoMemory> {
     let section = PlacedSection {
@@ -36,7 +53,11 @@ fn lines(alloc: Global) -> Result<Name, NoMemory> {
         statement: 3,
         address: 0x10,
     };
-    lines_text(alloc, &[section], &[placed], &[names], &[location])
+    let symbols = [
+        symbol(alloc, b"x", 4, Some(0), false)?,
+        symbol(alloc, b"", 0x10, None, true)?,
+    ];
+    lines_text(alloc, &[section], &[placed], &[names], &[location], &symbols)
 }
 
 #[test]

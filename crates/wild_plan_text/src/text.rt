@@ -1,13 +1,13 @@
 //! Names, numbers and plans as they are printed.
 
 ghost use Rattle.std.specs.Prelude.{◌≡◌, ◌<◌, ◌++◌, ◌∷◌, OnOk, IfOk, string_bytes, decimal, flat_map};
-ghost use Rattle.wild_plan_spec.specs.Text.{is_plain, printed_byte, printed_name, printed_address, field, letter, letters_of, printed_flags, printed_fill, printed_region, more_names, printed_names, name_at, section_line, input_line, input_lines, location_line};
+ghost use Rattle.wild_plan_spec.specs.Text.{is_plain, printed_byte, printed_name, printed_address, field, letter, letters_of, printed_flags, printed_fill, printed_region, more_names, printed_names, name_at, section_line, input_line, input_lines, location_line, printed_holder, printed_visibility, symbol_line};
 
 use bitflags::Flags;
 use std::alloc::{AllocError, Global};
 use std::fmt::Write;
 use wild_base::{InputFlags, Name, NoMemory};
-use wild_plan_spec::{PlacedInput, PlacedLocation, PlacedSection, RowNames};
+use wild_plan_spec::{PlacedInput, PlacedLocation, PlacedSection, PlacedSymbol, RowNames};
 
 /// A name as it is printed: visible bytes as they are, any other, a backslash and a comma as `\x` and two hexadecimal
 /// digits. The empty name is `-`, and the name `-` is `\x2d`. Fails where memory runs out.
@@ -28,21 +28,23 @@ pub fn address_text(alloc: Global, value: u64) -> Result<Name, NoMemory>
     Ok(name_of(out))
 }
 
-/// The text of a plan that lists these: a line for each section, then one for each row, then one for each location. The
-/// names are those of the rows, in table order.
+/// The text of a plan that lists these: a line for each section, then for each row, then for each location, then for each
+/// symbol. The names are those of the rows, in table order.
 pub fn lines_text(
     alloc: Global,
     sections: &[PlacedSection],
     placements: &[PlacedInput],
     names: &[RowNames],
     locations: &[PlacedLocation],
+    symbols: &[PlacedSymbol],
 ) -> Result<Name, NoMemory>
-    ensures { IfOk result (λ text. text ≡ flat_map section_line sections.now ++ input_lines sections.now 0 placements.now names.now ++ flat_map location_line locations.now) }
+    ensures { IfOk result (λ text. text ≡ flat_map section_line sections.now ++ input_lines sections.now 0 placements.now names.now ++ flat_map location_line locations.now ++ flat_map (symbol_line sections.now) symbols.now) }
 {
     let mut out = String::new(alloc);
     push_section_lines(&mut out, sections)?;
     push_input_lines(&mut out, sections, placements, names)?;
     push_location_lines(&mut out, locations)?;
+    push_symbol_lines(&mut out, sections, symbols)?;
     Ok(name_of(out))
 }
 
@@ -309,5 +311,59 @@ fn push_location_line(out: &mut String, location: &PlacedLocation) -> Result<(),
     out.push_str("location")?;
     push_number_field(out, location.statement as u64)?;
     push_address_field(out, location.address)?;
+    out.push('\n')
+}
+
+#[tactic(auto, using(std::proofs::lemmas::List::flat_map_more))]
+fn push_symbol_lines(
+    out: &mut String,
+    sections: &[PlacedSection],
+    symbols: &[PlacedSymbol],
+) -> Result<(), AllocError>
+    ensures { OnOk result (string_bytes out.new ≡ string_bytes out.old ++ flat_map (symbol_line sections.now) symbols.now) }
+{
+    for symbol in symbols {
+        push_symbol_line(out, sections, symbol)?;
+    }
+    Ok(())
+}
+
+// Appends a blank and the name of the section that holds a symbol, or a dash.
+fn push_holder_field(
+    out: &mut String,
+    sections: &[PlacedSection],
+    section: Option<usize>,
+) -> Result<(), AllocError>
+    ensures { OnOk result (string_bytes out.new ≡ string_bytes out.old ++ field (printed_holder sections.now section)) }
+{
+    match section {
+        Some(index) => push_section_name_field(out, sections, index),
+        None => out.push_str(" -"),
+    }
+}
+
+fn push_visibility_field(out: &mut String, hidden: bool) -> Result<(), AllocError>
+    ensures { OnOk result (string_bytes out.new ≡ string_bytes out.old ++ field (printed_visibility hidden)) }
+{
+    if hidden {
+        out.push_str(" hidden")
+    } else {
+        out.push_str(" default")
+    }
+}
+
+#[tactic(auto, unfolding(wild_plan_spec::specs::Text::symbol_line))]
+fn push_symbol_line(
+    out: &mut String,
+    sections: &[PlacedSection],
+    symbol: &PlacedSymbol,
+) -> Result<(), AllocError>
+    ensures { OnOk result (string_bytes out.new ≡ string_bytes out.old ++ symbol_line sections.now symbol.now) }
+{
+    out.push_str("symbol")?;
+    push_name_field(out, symbol.name.bytes())?;
+    push_address_field(out, symbol.address)?;
+    push_holder_field(out, sections, symbol.section)?;
+    push_visibility_field(out, symbol.hidden)?;
     out.push('\n')
 }

@@ -3,8 +3,7 @@ use Rattle.wild_plan_spec.specs.Walk.{Stands}
 use Rattle.wild_plan.specs.Chunks.{rows_at}
 use Rattle.wild_plan.specs.Moves.{state_of}
 use Rattle.wild_plan.specs.Shown.{shown}
-use Rattle.wild_plan.specs.Traits.{traits_at}
 use Rattle.wild_plan.proofs.walk.lay_out.Given as goal
 
 abbrev pub invariant-loop-number : goal.invariant-loop-number
-invariant-loop-number l = Stands (setting_of l.given.names.now) (λ s. (traits_at l.given.traits.now s).alignment) (rows_at l.given.chunks.now) (shown l.places) l.number (state_of l.walk)
+invariant-loop-number l = Stands (setting_of l.given.names.now) (rows_at l.given.chunks.now) (shown l.places) l.number (state_of l.walk)

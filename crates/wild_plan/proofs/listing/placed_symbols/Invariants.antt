@@ -1,0 +1,7 @@
+use Rattle.std.proofs.Common.{◌≡◌, ◌++◌, drop}
+use Rattle.wild_eval.specs.Table.{known_of}
+use Rattle.wild_plan_spec.specs.Layout.{table_symbols}
+use Rattle.wild_plan.proofs.listing.placed_symbols.Given as goal
+
+abbrev pub invariant-loop-symbol : goal.invariant-loop-symbol
+invariant-loop-symbol l = l.symbols ++ table_symbols (known_of l.table) l.rules l.inputs.rows (drop l.symbol-index l.inputs.symbols) ≡ table_symbols (known_of l.table) l.rules l.inputs.rows l.inputs.symbols

@@ -1,0 +1,192 @@
+//! The definitions of symbols: what is defined, in the order in which it counts.
+
+ghost use Rattle.std.specs.Prelude.{◌≡◌, [], ◌∷◌, ◌++◌, OnOk, IfOk};
+ghost use Rattle.wild_eval.specs.Setting.{shown_definition};
+ghost use Rattle.wild_plan_spec.specs.Definitions.{entry_of, symbol_chunk, table_entry, table_entries, point_of, assigned_by, assigned_entries, provide_entry, provided_by, provided_entries, firm_entries, entry_names};
+ghost use Rattle.wild_plan.specs.Entries.{shown_entries};
+ghost use Rattle.wild_plan.specs.Shown.{shown, shown_place, shown_task};
+
+use crate::places::{Place, Task};
+use crate::rules::Rules;
+use sqlite_items::Items;
+use std::alloc::Global;
+use wild_base::{Name, NoMemory, Numbering};
+use wild_eval::{Definition, Entry};
+use wild_plan_spec::{Chunk, InputRow, InputTable, SymbolRow};
+use wild_script::ProvideSymbolDefinition;
+use wild_value_spec::Point;
+
+/// A place, which is in no section's contents, as the point of an expression.
+pub fn point_of(place: usize) -> Point
+    ensures { result ≡ point_of place }
+{
+    Point {
+        place,
+        section: None,
+    }
+}
+
+#[tactic(auto, using(crate::proofs::Entries::entries_append))]
+fn push<'a>(entries: &mut Items<Entry<'a>>, entry: Entry<'a>) -> Result<(), NoMemory>
+    ensures { OnOk result (shown_entries entries.new ≡ shown_entries entries.old ++ record { name = entry.entry.name.now; definition = shown_definition entry.entry.definition } ∷ []) }
+{
+    entries.push(entry)?;
+    Ok(())
+}
+
+// Puts an entry behind the others, unless its name is empty.
+#[tactic(auto, using(crate::proofs::Entries::named_or_not))]
+fn push_named<'a>(
+    entries: &mut Items<Entry<'a>>,
+    name: &'a Name,
+    definition: Definition<'a>,
+) -> Result<(), NoMemory>
+    ensures { OnOk result (shown_entries entries.new ≡ shown_entries entries.old ++ entry_of name.now (shown_definition definition.entry)) }
+{
+    if name.is_empty() {
+        Ok(())
+    } else {
+        push(entries, Entry { name, definition })
+    }
+}
+
+/// The chunk that holds a symbol of the table: that of its row.
+pub fn symbol_chunk(rules: &Rules, rows: &[InputRow], symbol: &SymbolRow) -> Option<Chunk>
+    ensures { result ≡ symbol_chunk rules.now rows.now symbol.now }
+{
+    match rows.get(symbol.row) {
+        Some(row) => rules.chunk_of(&row.section),
+        None => None,
+    }
+}
+
+fn push_row<'a>(
+    entries: &mut Items<Entry<'a>>,
+    symbol: &'a SymbolRow,
+    chunk: Option<Chunk>,
+) -> Result<(), NoMemory>
+    ensures { OnOk result (shown_entries entries.new ≡ shown_entries entries.old ++ table_entry symbol.now chunk) }
+{
+    match chunk {
+        Some(chunk) => push_named(
+            entries,
+            &symbol.name,
+            Definition::OfRow {
+                row: symbol.row,
+                offset: symbol.offset,
+                section: chunk.section,
+            },
+        ),
+        None => Ok(()),
+    }
+}
+
+fn push_rows<'a>(
+    entries: &mut Items<Entry<'a>>,
+    rules: &Rules,
+    rows: &[InputRow],
+    symbols: &'a [SymbolRow],
+) -> Result<(), NoMemory>
+    ensures { OnOk result (shown_entries entries.new ≡ shown_entries entries.old ++ table_entries rules.now rows.now symbols.now) }
+{
+    for symbol in symbols {
+        push_row(entries, symbol, symbol_chunk(rules, rows, symbol))?;
+    }
+    Ok(())
+}
+
+fn push_assigned<'a>(
+    entries: &mut Items<Entry<'a>>,
+    index: usize,
+    task: Option<Task<'a>>,
+) -> Result<(), NoMemory>
+    ensures { OnOk result (shown_entries entries.new ≡ shown_entries entries.old ++ assigned_by index (shown_task task.entry)) }
+{
+    match task {
+        Some(Task::Assign(name, value)) => {
+            let point = point_of(index);
+            push_named(entries, name, Definition::OfScript { value, point })
+        }
+        _ => Ok(()),
+    }
+}
+
+// Puts the entry of a PROVIDE and its name behind the others, unless it is empty.
+#[tactic(auto, using(crate::proofs::Entries::named_or_not))]
+fn push_provide<'a>(
+    alloc: Global,
+    entries: &mut Items<Entry<'a>>,
+    names: &mut Numbering,
+    index: usize,
+    provide: &'a ProvideSymbolDefinition,
+) -> Result<(), NoMemory>
+    ensures entries { OnOk result (shown_entries entries.new ≡ shown_entries entries.old ++ provide_entry index provide.now) }
+    ensures names { OnOk result (names.new ≡ names.old ++ entry_names (provide_entry index provide.now)) }
+{
+    if provide.name.is_empty() {
+        return Ok(());
+    }
+    names.push(alloc, &provide.name)?;
+    let (value, point) = (&provide.value, point_of(index));
+    let definition = Definition::OfScript { value, point };
+    push(entries, Entry { name: &provide.name, definition })
+}
+
+fn push_provided<'a>(
+    alloc: Global,
+    entries: &mut Items<Entry<'a>>,
+    names: &mut Numbering,
+    index: usize,
+    task: Option<Task<'a>>,
+) -> Result<(), NoMemory>
+    ensures entries { OnOk result (shown_entries entries.new ≡ shown_entries entries.old ++ provided_by index (shown_task task.entry)) }
+    ensures names { OnOk result (names.new ≡ names.old ++ entry_names (provided_by index (shown_task task.entry))) }
+{
+    match task {
+        Some(Task::Provide(provide)) => push_provide(alloc, entries, names, index, provide),
+        _ => Ok(()),
+    }
+}
+
+fn push_all_assigned<'a>(
+    entries: &mut Items<Entry<'a>>,
+    places: &[Place<'a>],
+) -> Result<(), NoMemory>
+    ensures { OnOk result (shown_entries entries.new ≡ shown_entries entries.old ++ assigned_entries 0 (shown places.now)) }
+{
+    for (index, place) in places.iter().enumerate() {
+        push_assigned(entries, index, place.task())?;
+    }
+    Ok(())
+}
+
+/// What must not be defined twice: the symbols of the table, then the assignments. Fails where memory runs out.
+pub fn find_entries<'a>(
+    alloc: Global,
+    rules: &Rules,
+    inputs: &'a InputTable,
+    places: &[Place<'a>],
+) -> Result<Items<Entry<'a>>, NoMemory>
+    ensures { IfOk result (λ entries. shown_entries entries ≡ firm_entries rules.now inputs.now.rows inputs.now.symbols (shown places.now)) }
+{
+    let mut entries = Items::new(alloc);
+    push_rows(&mut entries, rules, inputs.rows.as_slice(), inputs.symbols.as_slice())?;
+    push_all_assigned(&mut entries, places)?;
+    Ok(entries)
+}
+
+/// Puts the PROVIDEs, and their names, behind the others. Fails where memory runs out.
+pub fn push_all_provided<'a>(
+    alloc: Global,
+    entries: &mut Items<Entry<'a>>,
+    names: &mut Numbering,
+    places: &[Place<'a>],
+) -> Result<(), NoMemory>
+    ensures entries { OnOk result (shown_entries entries.new ≡ shown_entries entries.old ++ provided_entries 0 (shown places.now)) }
+    ensures names { OnOk result (names.new ≡ names.old ++ entry_names (provided_entries 0 (shown places.now))) }
+{
+    for (index, place) in places.iter().enumerate() {
+        push_provided(alloc, entries, names, index, place.task())?;
+    }
+    Ok(())
+}
