@@ -1,5 +1,8 @@
 -- The entries so far, and those of the records that are left.
-use Rattle.std.proofs.Common.{◌≡◌, sym, refl, ℕ, ◌+◌, List, [], ◌∷◌, ◌++◌, Some, None, Result, Ok, Err, append_assoc}
+use Rattle.std.proofs.Common.{◌≡◌, ◌<◌, sym, refl, ℕ, ◌+◌, List, [], ◌∷◌, ◌++◌, length, map, drop, get_or, Some, None, Result, Ok, Err, append_assoc}
+use Rattle.std.proofs.lemmas.List.{drop_more}
+use Rattle.csv.specs.Records.{fields_of}
+use Rattle.csv.specs.declared.record.ByteRecord.{ByteRecord}
 use Rattle.wild_plan_spec.specs.declared.row.InputTable.{InputTable}
 use Rattle.wild_table.specs.declared.entry.Entry.{Entry}
 use Rattle.wild_table.specs.declared.entry.Entry.TheVariants.{OfRow, OfSymbol}
@@ -20,12 +23,20 @@ push front (OfSymbol symbol) index (Ok entries) = rw append_assoc refl
 push front (OfRow row) index (Err bad) = refl
 push front (OfSymbol symbol) index (Err bad) = refl
 
-pub entry-more : (front : InputTable) (fields : List (List ℕ)) (rest : List (List (List ℕ))) (entry : Entry) (index : ℕ) → Some entry ≡ entry_of fields
-    → with_front (extended front entry) (entries_from (index + 1) rest) ≡ with_front front (entries_from index (fields ∷ rest))
-entry-more front fields rest entry index e = rw (← e) (sym (push front entry index (entries_from (index + 1) rest)))
+entry-more : (front new : InputTable) (fields : List (List ℕ)) (rest : List (List (List ℕ))) (entry : Entry) (index : ℕ)
+    → Some entry ≡ entry_of fields → new ≡ extended front entry
+    → with_front new (entries_from (index + 1) rest) ≡ with_front front (entries_from index (fields ∷ rest))
+entry-more front new fields rest entry index e is = rw (is, ← e) (sym (push front entry index (entries_from (index + 1) rest)))
+
+-- one record more was read
+pub read-more : (front new : InputTable) (all : List ByteRecord) (index : ℕ) (d : ByteRecord) (entry : Entry)
+    → index < length all → Some entry ≡ entry_of (fields_of (get_or all index d)) → new ≡ extended front entry
+    → with_front new (entries_from (index + 1) (map fields_of (drop (index + 1) all))) ≡ with_front front (entries_from index (map fields_of (drop index all)))
+read-more front new all index d entry less e is =
+    rw (drop_more all index d less) (entry-more front new (fields_of (get_or all index d)) (map fields_of (drop (index + 1) all)) entry index e is)
 
 pub front-stop : (front : InputTable) (fields : List (List ℕ)) (rest : List (List (List ℕ))) (index : ℕ) → None ≡ entry_of fields
     → with_front front (entries_from index (fields ∷ rest)) ≡ Err index
 front-stop front fields rest index e = rw (← e) refl
 
-pub ruleset entries = (front-nil, entry-more, front-stop)
+pub ruleset entries = (front-nil, front-stop)

@@ -45,8 +45,8 @@ no_fields a b = (length a == 0) && (length b == 0)
 -- the entry of a record by its kind: a row, or a symbol, whose last two fields are empty
 abbrev pub entry_of_kind : List ℕ → List ℕ → List ℕ → List ℕ → List ℕ → List ℕ → Option Entry
 entry_of_kind kind a b c d e =
-  if bytes_eq kind (codes "section") then section_entry a b c d e
-  else (if bytes_eq kind (codes "symbol") then (if no_fields d e then symbol_entry a b c else None) else None)
+    if bytes_eq kind (codes "section") then section_entry a b c d e
+    else (if bytes_eq kind (codes "symbol") then (if no_fields d e then symbol_entry a b c else None) else None)
 
 -- the entry that a record of six fields writes
 abbrev pub entry_of : List (List ℕ) → Option Entry

@@ -81,7 +81,7 @@ fn read_entries(alloc: Global, records: &[ByteRecord]) -> Result<InputTable, Tab
 
 // The table with an entry behind the others.
 fn with_entry(mut inputs: InputTable, entry: Entry) -> Result<InputTable, NoMemory>
-    ensures { IfOk result (λ new. new ≡ extended inputs.old entry) }
+    ensures { IfOk result (λ new. new ≡ extended inputs entry) }
 {
     match entry {
         Entry::OfRow(row) => inputs.rows.push(row)?,
