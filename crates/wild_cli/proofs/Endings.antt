@@ -3,7 +3,7 @@ use Rattle.std.proofs.Common.{◌≡◌, ◌∙◌, sym, ap, refl, ℕ, ◌≤�
 use Rattle.std.proofs.lemmas.Bool.{le-ltb}
 use Rattle.std.proofs.lemmas.List.{append-nil}
 use Rattle.wild_base.specs.declared.fault.Fault as f
-use Rattle.wild_plan_spec.specs.declared.row.InputRow.{InputRow}
+use Rattle.wild_plan_spec.specs.declared.row.InputTable.{InputTable}
 use Rattle.wild_plan_spec.specs.Fit.{IsThePlan, IsTheFault}
 use Rattle.wild_plan_spec.specs.Layout.{Layout}
 use Rattle.wild_plan_spec.specs.Names.{Name}
@@ -12,7 +12,7 @@ use Rattle.wild_cli.specs.Answers.{LoadTold, Plans}
 use Rattle.wild_cli.specs.Device.{Got, max_length}
 use Rattle.wild_cli.specs.Due.{Answer, PlanOf, is_too_long, task_of_script, MeetsPlan, Agree, Settles}
 use Rattle.wild_cli.specs.Run.{Loading, Putting, HasCause, Ends, Told, Wrote}
-use Rattle.wild_cli.specs.Table.{table}
+use Rattle.wild_table.specs.Table.{table}
 use Rattle.wild_cli.specs.declared.words.Request.{Request}
 use Rattle.wild_cli.specs.declared.words.Request.TheVariants.{Plan}
 use Rattle.wild_cli.specs.declared.refusal.Refusal as r
@@ -20,31 +20,31 @@ use Rattle.wild_cli.specs.declared.refusal.Refusal.TheVariants.{Fault, Usage, No
 
 -- ---- answers that settle a task
 
-text_agrees : (script : List ℕ) (rows : List InputRow) (plan : Layout) (text : List ℕ) → IsThePlan script rows plan → text ≡ plan_text plan
-    → (other : Answer) → MeetsPlan script rows other → Agree other (Ok text)
-text_agrees script rows plan text is e (Ok another) meets = inl (ap (λ (l : List ℕ). Ok l) (meets.2 ∙ ap plan_text (is.only meets.0 meets.1) ∙ sym e))
-text_agrees script rows plan text is e (Err (Fault fault)) meets = absurd (is.no_fault fault meets)
-text_agrees script rows plan text is e (Err Usage) meets = absurd meets
-text_agrees script rows plan text is e (Err (NotLoaded name)) meets = absurd meets
-text_agrees script rows plan text is e (Err NoMemory) meets = absurd meets
-text_agrees script rows plan text is e (Err (BadRecord index)) meets = absurd meets
-text_agrees script rows plan text is e (Err (TooLong name)) meets = absurd meets
+text_agrees : (script : List ℕ) (inputs : InputTable) (plan : Layout) (text : List ℕ) → IsThePlan script inputs plan → text ≡ plan_text plan
+    → (other : Answer) → MeetsPlan script inputs other → Agree other (Ok text)
+text_agrees script inputs plan text is e (Ok another) meets = inl (ap (λ (l : List ℕ). Ok l) (meets.2 ∙ ap plan_text (is.only meets.0 meets.1) ∙ sym e))
+text_agrees script inputs plan text is e (Err (Fault fault)) meets = absurd (is.no_fault fault meets)
+text_agrees script inputs plan text is e (Err Usage) meets = absurd meets
+text_agrees script inputs plan text is e (Err (NotLoaded name)) meets = absurd meets
+text_agrees script inputs plan text is e (Err NoMemory) meets = absurd meets
+text_agrees script inputs plan text is e (Err (BadRecord index)) meets = absurd meets
+text_agrees script inputs plan text is e (Err (TooLong name)) meets = absurd meets
 
-fault_agrees : (script : List ℕ) (rows : List InputRow) (fault : f.Fault) → IsTheFault script rows fault
-    → (other : Answer) → MeetsPlan script rows other → Agree other (Err (Fault fault))
-fault_agrees script rows fault is (Ok text) meets = absurd (is.none_fits meets.0 meets.1)
-fault_agrees script rows fault is (Err (Fault other)) meets = inr (other, fault, refl, refl)
-fault_agrees script rows fault is (Err Usage) meets = absurd meets
-fault_agrees script rows fault is (Err (NotLoaded name)) meets = absurd meets
-fault_agrees script rows fault is (Err NoMemory) meets = absurd meets
-fault_agrees script rows fault is (Err (BadRecord index)) meets = absurd meets
-fault_agrees script rows fault is (Err (TooLong name)) meets = absurd meets
+fault_agrees : (script : List ℕ) (inputs : InputTable) (fault : f.Fault) → IsTheFault script inputs fault
+    → (other : Answer) → MeetsPlan script inputs other → Agree other (Err (Fault fault))
+fault_agrees script inputs fault is (Ok text) meets = absurd (is.none_fits meets.0 meets.1)
+fault_agrees script inputs fault is (Err (Fault other)) meets = inr (other, fault, refl, refl)
+fault_agrees script inputs fault is (Err Usage) meets = absurd meets
+fault_agrees script inputs fault is (Err (NotLoaded name)) meets = absurd meets
+fault_agrees script inputs fault is (Err NoMemory) meets = absurd meets
+fault_agrees script inputs fault is (Err (BadRecord index)) meets = absurd meets
+fault_agrees script inputs fault is (Err (TooLong name)) meets = absurd meets
 
-text_settles : (script : List ℕ) (rows : List InputRow) (text : List ℕ) → Plans script rows (Ok text) → Settles (PlanOf script rows) (Ok text)
-text_settles script rows text h = record { meets = (h.0, h.1.is, h.2); only = text_agrees script rows h.0 text h.1 h.2 }
+text_settles : (script : List ℕ) (inputs : InputTable) (text : List ℕ) → Plans script inputs (Ok text) → Settles (PlanOf script inputs) (Ok text)
+text_settles script inputs text h = record { meets = (h.0, h.1.is, h.2); only = text_agrees script inputs h.0 text h.1 h.2 }
 
-fault_settles : (script : List ℕ) (rows : List InputRow) (fault : f.Fault) → IsTheFault script rows fault → Settles (PlanOf script rows) (Err (Fault fault))
-fault_settles script rows fault h = record { meets = h.is; only = fault_agrees script rows fault h }
+fault_settles : (script : List ℕ) (inputs : InputTable) (fault : f.Fault) → IsTheFault script inputs fault → Settles (PlanOf script inputs) (Err (Fault fault))
+fault_settles script inputs fault h = record { meets = h.is; only = fault_agrees script inputs fault h }
 
 -- ---- what a told script and table ask for
 
@@ -52,26 +52,26 @@ fits : (content : List ℕ) → length content ≤ max_length → is_too_long co
 fits content h = le-ltb max_length (length content) h
 
 -- both files were loaded, and the table was read
-due_plan : (script name : Name) (sc tc : Option (List ℕ)) (a b : List ℕ) (rows : List InputRow) (answer : Answer)
-    → LoadTold sc a → LoadTold tc b → table b ≡ Ok rows → Settles (PlanOf a rows) answer
+due_plan : (script name : Name) (sc tc : Option (List ℕ)) (a b : List ℕ) (inputs : InputTable) (answer : Answer)
+    → LoadTold sc a → LoadTold tc b → table b ≡ Ok inputs → Settles (PlanOf a inputs) answer
     → IfSome (task_of_script script sc name tc) (λ task. Settles task answer)
-due_plan script name None tc a b rows answer ha hb ht h = tt
-due_plan script name (Some x) None a b rows answer ha hb ht h = rw (fits x ha.1) tt
-due_plan script name (Some x) (Some y) a b rows answer ha hb ht h = rw (fits x ha.1, fits y hb.1, ← ha.0, ← hb.0, ht) h
+due_plan script name None tc a b inputs answer ha hb ht h = tt
+due_plan script name (Some x) None a b inputs answer ha hb ht h = rw (fits x ha.1) tt
+due_plan script name (Some x) (Some y) a b inputs answer ha hb ht h = rw (fits x ha.1, fits y hb.1, ← ha.0, ← hb.0, ht) h
 
 -- ---- causes
 
 module _ (held : Name → Option (List ℕ)) (script name : Name) (files : Loading) where
-  pub planned : (a b : List ℕ) (rows : List InputRow) (answer : Answer)
-      → LoadTold (held script) a → LoadTold (held name) b → table b ≡ Ok rows → Plans a rows answer
+  pub planned : (a b : List ℕ) (inputs : InputTable) (answer : Answer)
+      → LoadTold (held script) a → LoadTold (held name) b → table b ≡ Ok inputs → Plans a inputs answer
       → HasCause held (Some (Plan script name)) files answer
-  planned a b rows (Ok text) ha hb ht h = record { asked = refl; settles = due_plan script name (held script) (held name) a b rows _ ha hb ht (text_settles a rows text h) }
-  planned a b rows (Err (Fault fault)) ha hb ht h = record { asked = refl; settles = due_plan script name (held script) (held name) a b rows _ ha hb ht (fault_settles a rows fault h) }
-  planned a b rows (Err NoMemory) ha hb ht h = tt
-  planned a b rows (Err Usage) ha hb ht h = absurd h
-  planned a b rows (Err (NotLoaded other)) ha hb ht h = absurd h
-  planned a b rows (Err (BadRecord index)) ha hb ht h = absurd h
-  planned a b rows (Err (TooLong other)) ha hb ht h = absurd h
+  planned a b inputs (Ok text) ha hb ht h = record { asked = refl; settles = due_plan script name (held script) (held name) a b inputs _ ha hb ht (text_settles a inputs text h) }
+  planned a b inputs (Err (Fault fault)) ha hb ht h = record { asked = refl; settles = due_plan script name (held script) (held name) a b inputs _ ha hb ht (fault_settles a inputs fault h) }
+  planned a b inputs (Err NoMemory) ha hb ht h = tt
+  planned a b inputs (Err Usage) ha hb ht h = absurd h
+  planned a b inputs (Err (NotLoaded other)) ha hb ht h = absurd h
+  planned a b inputs (Err (BadRecord index)) ha hb ht h = absurd h
+  planned a b inputs (Err (TooLong other)) ha hb ht h = absurd h
 
 -- ---- ends
 

@@ -1,7 +1,7 @@
 -- What the parts of a run answer.
 use Rattle.std.specs.Prelude.{◌≡◌, ◌<◌, ◌≤◌, ℕ, List, length, Option, Some, IfSome, Result, Ok, Err, Vec, ⊤}
 use Rattle.std.specs.declared.alloc.Global.{Global}
-use Rattle.wild_plan_spec.specs.declared.row.InputRow.{InputRow}
+use Rattle.wild_plan_spec.specs.declared.row.InputTable.{InputTable}
 use Rattle.wild_plan_spec.specs.Fit.{IsThePlan, IsTheFault}
 use Rattle.wild_plan_spec.specs.Layout.{Layout}
 use Rattle.wild_plan_spec.specs.Names.{Name}
@@ -12,17 +12,17 @@ use Rattle.wild_cli.specs.declared.refusal.Refusal as r
 use Rattle.wild_cli.specs.declared.refusal.Refusal.TheVariants.{Fault, Usage, NotLoaded, NoMemory, BadRecord, TooLong}
 
 -- the text of the one plan that fits, or the fault, unless memory ran out
-abbrev pub PlanRefused : List ℕ → List InputRow → r.Refusal → Type 0
-PlanRefused script rows (Fault fault) = IsTheFault script rows fault
-PlanRefused script rows NoMemory = ⊤
-PlanRefused script rows Usage = ⊥
-PlanRefused script rows (NotLoaded name) = ⊥
-PlanRefused script rows (BadRecord index) = ⊥
-PlanRefused script rows (TooLong name) = ⊥
+abbrev pub PlanRefused : List ℕ → InputTable → r.Refusal → Type 0
+PlanRefused script inputs (Fault fault) = IsTheFault script inputs fault
+PlanRefused script inputs NoMemory = ⊤
+PlanRefused script inputs Usage = ⊥
+PlanRefused script inputs (NotLoaded name) = ⊥
+PlanRefused script inputs (BadRecord index) = ⊥
+PlanRefused script inputs (TooLong name) = ⊥
 
-abbrev pub Plans : List ℕ → List InputRow → Answer → Type 0
-Plans script rows (Ok text) = (plan : Layout) × IsThePlan script rows plan × (text ≡ plan_text plan)
-Plans script rows (Err why) = PlanRefused script rows why
+abbrev pub Plans : List ℕ → InputTable → Answer → Type 0
+Plans script inputs (Ok text) = (plan : Layout) × IsThePlan script inputs plan × (text ≡ plan_text plan)
+Plans script inputs (Err why) = PlanRefused script inputs why
 
 -- the content of a file of this name, or a refusal, and what the counts then show
 abbrev pub LoadRefused : Name → Option (List ℕ) → r.Refusal → Type 0

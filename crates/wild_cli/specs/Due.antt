@@ -1,14 +1,14 @@
 -- What the words and the told files ask for, and which answers meet that.
 use Rattle.std.specs.Prelude.{◌≡◌, ◌⊎◌, ℕ, Bool, nat_lt, List, length, Option, Some, None, IfSome, IsSome, Result, Ok, Err, if◌then◌else◌}
 use Rattle.wild_base.specs.declared.fault.Fault as f
-use Rattle.wild_plan_spec.specs.declared.row.InputRow.{InputRow}
+use Rattle.wild_plan_spec.specs.declared.row.InputTable.{InputTable}
 use Rattle.wild_plan_spec.specs.Fit.{IsPlan, IsFault}
 use Rattle.wild_plan_spec.specs.Layout.{Layout}
 use Rattle.wild_plan_spec.specs.Names.{Name}
 use Rattle.wild_plan_spec.specs.Text.{plan_text}
 use Rattle.wild_cli.specs.Device.{max_length}
 use Rattle.wild_cli.specs.Refusal.{status_of}
-use Rattle.wild_cli.specs.Table.{table}
+use Rattle.wild_table.specs.Table.{table}
 use Rattle.wild_cli.specs.declared.words.Request.{Request}
 use Rattle.wild_cli.specs.declared.words.Request.TheVariants.{Plan}
 use Rattle.wild_cli.specs.declared.refusal.Refusal as r
@@ -20,24 +20,24 @@ Answer = Result (List ℕ) r.Refusal
 
 -- ---- tasks
 
--- what is asked for: nothing, a file that is too long, a table with a bad record, or the plan of a script over rows
+-- what is asked for: nothing, a file that is too long, a table with a bad record, or the plan of a script over a table
 pub data Task : Type 0 where
   NoCommand : Task
   LongFile : Name → Task
   BadTable : ℕ → Task
-  PlanOf : List ℕ → List InputRow → Task
+  PlanOf : List ℕ → InputTable → Task
 
 abbrev pub is_too_long : List ℕ → Bool
 is_too_long content = nat_lt max_length (length content)
 
-abbrev pub task_of_rows : List ℕ → Result (List InputRow) ℕ → Task
-task_of_rows script (Ok rows) = PlanOf script rows
-task_of_rows script (Err index) = BadTable index
+abbrev pub task_of_inputs : List ℕ → Result InputTable ℕ → Task
+task_of_inputs script (Ok inputs) = PlanOf script inputs
+task_of_inputs script (Err index) = BadTable index
 
 -- the script is at hand; the table is this, where it is told
 abbrev pub task_of_table : List ℕ → Name → Option (List ℕ) → Option Task
 task_of_table script name None = None
-task_of_table script name (Some content) = Some (if is_too_long content then LongFile name else task_of_rows script (table content))
+task_of_table script name (Some content) = Some (if is_too_long content then LongFile name else task_of_inputs script (table content))
 
 abbrev pub task_of_script : Name → Option (List ℕ) → Name → Option (List ℕ) → Option Task
 task_of_script name None table_name table_content = None
@@ -50,21 +50,21 @@ task_of held (Some (Plan script name)) = task_of_script script (held script) nam
 
 -- ---- answers
 
--- a text is that of a plan that fits, and a fault is one of the script and the rows
-abbrev pub MeetsPlan : List ℕ → List InputRow → Answer → Type 0
-MeetsPlan script rows (Ok text) = (plan : Layout) × IsPlan script rows plan × (text ≡ plan_text plan)
-MeetsPlan script rows (Err (refusal.Fault fault)) = IsFault script rows fault
-MeetsPlan script rows (Err refusal.Usage) = ⊥
-MeetsPlan script rows (Err (refusal.NotLoaded name)) = ⊥
-MeetsPlan script rows (Err refusal.NoMemory) = ⊥
-MeetsPlan script rows (Err (refusal.BadRecord index)) = ⊥
-MeetsPlan script rows (Err (refusal.TooLong name)) = ⊥
+-- a text is that of a plan that fits, and a fault is one of the script and the table
+abbrev pub MeetsPlan : List ℕ → InputTable → Answer → Type 0
+MeetsPlan script inputs (Ok text) = (plan : Layout) × IsPlan script inputs plan × (text ≡ plan_text plan)
+MeetsPlan script inputs (Err (refusal.Fault fault)) = IsFault script inputs fault
+MeetsPlan script inputs (Err refusal.Usage) = ⊥
+MeetsPlan script inputs (Err (refusal.NotLoaded name)) = ⊥
+MeetsPlan script inputs (Err refusal.NoMemory) = ⊥
+MeetsPlan script inputs (Err (refusal.BadRecord index)) = ⊥
+MeetsPlan script inputs (Err (refusal.TooLong name)) = ⊥
 
 abbrev pub Meets : Task → Answer → Type 0
 Meets NoCommand answer = answer ≡ Err refusal.Usage
 Meets (LongFile name) answer = answer ≡ Err (refusal.TooLong name)
 Meets (BadTable index) answer = answer ≡ Err (refusal.BadRecord index)
-Meets (PlanOf script rows) answer = MeetsPlan script rows answer
+Meets (PlanOf script inputs) answer = MeetsPlan script inputs answer
 
 -- two answers are one, or both are faults
 abbrev pub Agree : Answer → Answer → Type 0

@@ -1,8 +1,5 @@
 pub mod Device
-pub mod Flags
-pub mod Number
 pub mod Shelf
-pub mod Table
 pub mod Words
 pub mod Refusal
 pub mod Due

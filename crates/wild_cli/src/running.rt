@@ -9,8 +9,18 @@ ghost use Rattle.wild_cli.specs.Run.{loading, putting, HasCause, Ends, Outcome, 
 use crate::refusal::Refusal;
 use crate::{Files, LoadFault, Request, Sink, SinkFault, read_table, read_words};
 use std::alloc::Global;
-use wild_base::{Fault, Name};
-use wild_plan::{InputTable, plan};
+use wild_base::{Architecture, Fault, Name, RelocationModel};
+use wild_plan::{InputTable, PlanOptions, plan};
+use wild_sections::OutputKind;
+
+// What a plan is made for.
+const OPTIONS: PlanOptions = PlanOptions {
+    architecture: Architecture::X86_64,
+    endian: None,
+    kind: OutputKind::StaticExecutable(RelocationModel::Fixed),
+    header_size: 0,
+    segment_starts: [None, None, None],
+};
 
 /// Does what the words ask for, and answers the status. The text goes to `out`, and the line of a refusal to `err`.
 pub fn run<F: Files, O: Sink, E: Sink>(
@@ -85,9 +95,9 @@ fn load<F: Files>(alloc: Global, files: &mut F, name: Name) -> Result<Vec<u8>, R
 
 // The text of the plan of a script over a table.
 fn text_of(alloc: Global, script: &[u8], inputs: &InputTable) -> Result<Name, Refusal>
-    ensures { Plans script.now inputs.now.rows result }
+    ensures { Plans script.now inputs.now result }
 {
-    match plan(alloc, script, inputs) {
+    match plan(alloc, script, inputs, &OPTIONS) {
         Ok(plan) => Ok(plan.plan_text(alloc)?),
         Err(Fault::NoMemory) => Err(Refusal::NoMemory),
         Err(fault) => Err(Refusal::Fault(fault)),

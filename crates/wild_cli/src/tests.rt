@@ -1,6 +1,6 @@
 use crate::{
     DirFiles, FailingPut, Files, LoadFault, Refusal, Shelf, ShelfFile, Sink, SinkFault, StreamSink,
-    SureShelf, SureTray, Tray, read_number, run,
+    SureShelf, SureTray, Tray, run,
 };
 use std::alloc::Global;
 use std::fs;
@@ -83,28 +83,6 @@ fn lines(rt: HostRuntime) -> Result<(), Fail> {
     for (refusal, status, line) in &cases {
         assert_eq!(rt; refusal.status(), *status);
         assert_eq!(rt; refusal.line(alloc)?.bytes(), *line);
-    }
-    Ok(())
-}
-
-#[test]
-fn numbers(rt: HostRuntime) -> Result<(), Fail> {
-    let cases: [(&[u8], Option<u64>); 12] = [
-        (b"0", Some(0)),
-        (b"00", None),
-        (b"010", None),
-        (b"0x10", Some(16)),
-        (b"0xfF", Some(255)),
-        (b"0X1", None),
-        (b"+1", None),
-        (b"", None),
-        (b"18446744073709551615", Some(u64::MAX)),
-        (b"18446744073709551616", None),
-        (b"0x", None),
-        (b"0x00000000000000000001", Some(1)),
-    ];
-    for (bytes, number) in cases {
-        assert_eq!(rt; read_number(bytes), number);
     }
     Ok(())
 }

@@ -1,7 +1,7 @@
 //! Numbers as they are written in tables and words.
 
 ghost use Rattle.std.specs.Prelude.{◌≡◌, ◌≤◌};
-ghost use Rattle.wild_cli.specs.Number.{number, numeral};
+ghost use Rattle.wild_table.specs.Number.{number, numeral};
 
 use std::str;
 

@@ -3,8 +3,8 @@ use Rattle.std.proofs.lemmas.Str.Parse.{without_leading_plus_none}
 use Rattle.std.proofs.lemmas.Grind.{common_steps}
 use Rattle.std.specs.Result.{OkIff}
 use Rattle.std.specs.Str.Parse.{ParsesUnsigned, IsNumeral, digits_value}
-use Rattle.wild_cli.proofs.Numbers.{numeral_read}
-use Rattle.wild_cli.proofs.number.read_digits.Goals as goal
+use Rattle.wild_table.proofs.Numbers.{numeral_read}
+use Rattle.wild_table.proofs.number.read_digits.Goals as goal
 
 pub returns : goal.returns
 returns c =

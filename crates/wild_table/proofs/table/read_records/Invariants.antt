@@ -3,7 +3,7 @@ use Rattle.csv.specs.Reading.{Reached, Ready, default_config, source_of, strip_b
 use Rattle.csv.specs.Records.{fields_of}
 use Rattle.csv.specs.declared.parser.State.TheVariants as st
 use Rattle.csv.specs.declared.reader.Trim.TheVariants as trim
-use Rattle.wild_cli.proofs.table.read_records.Given as goal
+use Rattle.wild_table.proofs.table.read_records.Given as goal
 
 -- the records so far take the text to where the reader stands
 abbrev pub invariant-loop-record : goal.invariant-loop-record

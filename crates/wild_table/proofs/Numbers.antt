@@ -10,7 +10,7 @@ use Rattle.std.specs.Result.{OkIff}
 use Rattle.std.specs.Str.{IsAscii}
 use Rattle.std.specs.Str.Parse.{AllDigits, IsNumeral, digits_value}
 use Rattle.std.specs.Result.{result_ok}
-use Rattle.wild_cli.specs.Number.{is_numeral, numeral}
+use Rattle.wild_table.specs.Number.{is_numeral, numeral}
 
 digits_from_test : (radix : ℕ) (ds : List ℕ) → list_all (λ c. nat_lt (digit_value c) radix) ds ≡ true → AllDigits radix ds
 digits_from_test radix [] e = tt

@@ -6,8 +6,8 @@ use Rattle.csv.specs.Records.{fields_of}
 use Rattle.csv.specs.declared.parser.State.TheVariants as st
 use Rattle.csv.specs.declared.reader.ReaderBuilder.{ReaderBuilder}
 use Rattle.csv.proofs.ReadFacts.{rows-end, rows-more}
-use Rattle.wild_cli.proofs.Records.{are_records}
-use Rattle.wild_cli.proofs.table.read_records.Goals as goal
+use Rattle.wild_table.proofs.Records.{are_records}
+use Rattle.wild_table.proofs.table.read_records.Goals as goal
 
 pub loop-record-init : goal.loop-record-init
 unfolding Reached

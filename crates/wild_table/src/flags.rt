@@ -1,7 +1,7 @@
 //! The letters of flags.
 
 ghost use Rattle.std.specs.Prelude.{◌≡◌, ◌==◌, count_by};
-ghost use Rattle.wild_cli.specs.Flags.{times, is_letter, flags_of, all_letters, has_twice, bit_of};
+ghost use Rattle.wild_table.specs.Flags.{times, is_letter, flags_of, all_letters, has_twice, bit_of};
 
 use bitflags::Flags;
 use wild_base::InputFlags;

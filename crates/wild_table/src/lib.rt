@@ -1,0 +1,15 @@
+//! Tables of inputs, and the numbers and flags in them, as they are written.
+#![tactic(auto)]
+
+mod entry;
+mod flags;
+mod number;
+mod table;
+
+pub use flags::read_flags;
+pub use number::read_number;
+pub use table::{TableFault, read_table};
+pub use wild_plan_spec::{InputRow, InputRows, InputTable, SymbolRow, SymbolRows};
+
+#[cfg(test)]
+mod tests;
