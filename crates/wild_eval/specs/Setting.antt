@@ -1,13 +1,46 @@
--- What borrowed names say of a script's sections.
-use Rattle.std.specs.Prelude.{ℕ, List, [], Option, Some, None, slice_get}
+-- What a script and its table say of sections and symbols, and the symbols that are being evaluated.
+use Rattle.std.specs.Prelude.{ℕ, List, [], ◌∷◌, Option, Some, None, slice_get}
+use Rattle.std.specs.Option.{option_map, unwrap_or}
 use denote.Ref.{Bor}
-use Rattle.wild_value_spec.specs.Value.{Setting}
+use Rattle.wild_base.specs.Numbering.{number_of}
+use Rattle.wild_eval.specs.declared.names.Definition.{Definition}
+use Rattle.wild_eval.specs.declared.names.Definition.TheVariants as kept
+use Rattle.wild_eval.specs.declared.names.Entry.{Entry}
+use Rattle.wild_eval.specs.declared.names.Names.{Names}
+use Rattle.wild_eval.specs.declared.names.Path.{Path}
+use Rattle.wild_eval.specs.declared.names.Path.TheVariants.{Start, Through'}
+use Rattle.wild_value_spec.specs.Setting.{Name, Setting, OfRow, OfScript, line_of}
+use Rattle.wild_value_spec.specs.Setting as meaning
+
+-- a definition without how it is kept
+abbrev pub shown_definition : Definition → meaning.Definition
+shown_definition (kept.OfRow row offset s) = OfRow row offset s
+shown_definition (kept.OfScript value point) = OfScript value.now point
+
+-- the definition of the entry at an index
+abbrev pub entry_at : ℕ → List Entry → Option meaning.Definition
+entry_at i entries = option_map (λ e. shown_definition e.definition) (slice_get entries i)
+
+abbrev pub defined_at : Option ℕ → List Entry → Option meaning.Definition
+defined_at None entries = None
+defined_at (Some i) entries = entry_at i entries
 
 -- the name, or the empty one where there is none
-abbrev pub or_empty : Option (Bor (List ℕ)) → List ℕ
+abbrev pub or_empty : Option (Bor Name) → Name
 or_empty (Some name) = name.now
 or_empty None = []
 
--- the section of a number has the name at that index
-abbrev pub setting_of : List (Bor (List ℕ)) → Setting
-setting_of names = record { section_name = λ s. or_empty (slice_get names s) }
+-- sections by their index, and symbols by the index of their name
+abbrev pub setting_of : Names → Setting
+setting_of names = record {
+  section_name = λ s. or_empty (slice_get names.sections.now s);
+  «section» = λ x. number_of x names.section_numbers.now;
+  alignment = λ s. unwrap_or (slice_get names.alignments.now s) 0;
+  definition = λ x. defined_at (number_of x names.symbols.now) names.entries.now;
+  line = λ i. line_of names.script.now i;
+}
+
+-- the names on a path, the last one first
+abbrev pub path_of : Path → List Name
+path_of Start = []
+path_of (Through' name at rest) = name.now ∷ path_of rest

@@ -1,6 +1,6 @@
 //! What a reader does without looking into a part.
 
-ghost use Rattle.std.specs.Prelude.{◌≡◌, ◌<◌, ◌≤◌, ◌+◌, max, IfOk, Ok};
+ghost use Rattle.std.specs.Prelude.{◌≡◌, ◌<◌, ◌≤◌, ◌+◌, max, IfOk};
 ghost use Rattle.wild_eval.specs.Plain as spec;
 ghost use Rattle.wild_value_spec.specs.Answer.{Returns};
 ghost use Rattle.wild_value_spec.specs.Value.{multiple_from, raised, sum_of};
@@ -8,47 +8,12 @@ ghost use Rattle.wild_value_spec.specs.Value.{multiple_from, raised, sum_of};
 use crate::arithmetic::{holds, truth};
 use crate::marks::{absolutely, bare, over_both, relatively, unmarked_over};
 use crate::plain::Reader;
-use wild_base::{Fault, Name};
+use wild_base::Fault;
 use wild_value_spec::{Comparison, Point, Value};
 
 impl Reader<'_> {
-    fn section_name(&self, section: usize) -> Result<Name, Fault>
-        ensures { Returns result (Ok ((spec.setting self.now).section_name section)) }
-    {
-        match self.names.get(section) {
-            Some(name) => Ok(name.copy(self.alloc)?),
-            None => Ok(Name::from_vec(Vec::new(self.alloc))),
-        }
-    }
-
-    #[tactic(auto, unfolding(wild_value_spec::specs::Value::dot_of))]
-    fn dot(&self, place: usize) -> Result<u64, Fault>
-        ensures { Returns result (spec.dot_of self.now place) }
-    {
-        match self.table.known_dot(place) {
-            Some(dot) => Ok(dot),
-            None => Err(Fault::NotLaidOut {
-                statement: self.statement,
-                name: Name::new(self.alloc, b".")?,
-            }),
-        }
-    }
-
-    #[tactic(auto, unfolding(wild_value_spec::specs::Value::start_of))]
-    fn start(&self, section: usize) -> Result<u64, Fault>
-        ensures { Returns result (spec.start_of self.now section) }
-    {
-        match self.table.known_start(section) {
-            Some(start) => Ok(start),
-            None => Err(Fault::NotLaidOut {
-                statement: self.statement,
-                name: self.section_name(section)?,
-            }),
-        }
-    }
-
     #[tactic(auto, unfolding(wild_value_spec::specs::Value::sum_of))]
-    fn sum(&self, left: u64, right: u64) -> Result<u64, Fault>
+    pub(crate) fn sum(&self, left: u64, right: u64) -> Result<u64, Fault>
         ensures { Returns result (sum_of left right) }
     {
         match left.checked_add(right) {

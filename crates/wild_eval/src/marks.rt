@@ -1,7 +1,7 @@
 //! Values with their marks.
 
 ghost use Rattle.std.specs.Prelude.{◌≡◌, ◌<◌};
-ghost use Rattle.wild_value_spec.specs.Value as spec;
+ghost use Rattle.wild_value_spec.specs.Marks as spec;
 
 use wild_value_spec::Value;
 
@@ -50,6 +50,32 @@ pub fn relatively(number: u64) -> Value
         relative: true,
         absolute: false,
         height: 1,
+    }
+}
+
+/// An address over parts of this height.
+pub fn absolutely_over(number: u64, height: usize) -> Value
+    requires { height < 1024 }
+    ensures { result ≡ spec.absolutely_over number height }
+{
+    Value {
+        number,
+        relative: false,
+        absolute: true,
+        height: height + 1,
+    }
+}
+
+/// The same, counted from the start of a section.
+pub fn relatively_over(number: u64, height: usize) -> Value
+    requires { height < 1024 }
+    ensures { result ≡ spec.relatively_over number height }
+{
+    Value {
+        number,
+        relative: true,
+        absolute: false,
+        height: height + 1,
     }
 }
 

@@ -1,20 +1,21 @@
 //! Values by plain recursion over trees.
 
-ghost use Rattle.std.specs.Prelude.{◌≡◌, ℕ, ◌<◌, ◌≤◌, ◌+◌, max, IfOk, Ok};
+ghost use Rattle.std.specs.Prelude.{◌≡◌, ℕ, ◌<◌, ◌≤◌, ◌+◌, IfOk};
 ghost use Rattle.wild_eval.specs.Plain as spec;
-ghost use Rattle.wild_eval.specs.Setting.{setting_of};
+ghost use Rattle.wild_eval.specs.Setting.{path_of, setting_of, shown_definition};
 ghost use Rattle.wild_eval.specs.Table.{known_of};
 ghost use Rattle.wild_value_spec.specs.Answer.{Returns};
 ghost use Rattle.wild_value_spec.specs.Value as value;
 
 use crate::arithmetic::{apply, change, decides, divide, truth_of};
 use crate::marks::{over, over_both, unmarked};
+use crate::names::{Definition, Names, Path};
 use crate::operators::{arithmetic, comparison, connective, division, unary};
 use crate::table::Table;
 use sqlite_items::Boxed;
 use std::alloc::Global;
 use wild_base::{Fault, Name};
-use wild_expression_tree::Expression;
+use wild_expression_tree::{AssertCommand, Expression};
 use wild_value_spec::{Arithmetic, Comparison, Connective, Division, Point, Unary, Value};
 
 /// The largest height of a value.
@@ -24,8 +25,7 @@ const MAX_HEIGHT: usize = 1024;
 #[derive(Drop)]
 pub struct Reader<'a> {
     pub alloc: Global,
-    /// The names of the sections, in text order.
-    pub names: &'a [&'a Name],
+    pub names: &'a Names<'a>,
     pub table: &'a Table,
     /// The number of the statement, which faults name.
     pub statement: usize,
@@ -50,11 +50,19 @@ fn zero_divisor(operator: Division, statement: usize) -> Fault
 impl Reader<'_> {
     /// The number that an expression stands for at a point.
     #[tactic(auto, unfolding(wild_value_spec::specs::Value::full))]
-    pub fn full(&self, expression: &Expression, point: Point) -> Result<u64, Fault>
-        ensures { Returns result (value.full (setting_of self.now.names.now) self.now.statement (known_of self.now.table.now) 1024 expression.now point) }
+    pub fn full(&self, path: &Path<'_>, expression: &Expression, point: Point) -> Result<u64, Fault>
+        ensures { Returns result (value.full (setting_of self.now.names.now) self.now.statement (known_of self.now.table.now) 1024 (path_of path.now) expression.now point) }
     {
-        let value = self.value(MAX_HEIGHT, expression, point)?;
+        let value = self.value(MAX_HEIGHT, path, expression, point)?;
         self.based(point, value)
+    }
+
+    /// What an ASSERT statement is worth at a point. Fails where its condition is 0.
+    #[tactic(auto, unfolding(wild_value_spec::specs::Value::tested))]
+    pub fn check(&self, command: &AssertCommand, point: Point) -> Result<Value, Fault>
+        ensures { Returns result (value.tested (setting_of self.now.names.now) self.now.statement (known_of self.now.table.now) command.now point) }
+    {
+        self.asserted(MAX_HEIGHT - 1, &Path::Start, command, point)
     }
 
     /// The value of an expression at a point, where this many levels are left.
@@ -63,11 +71,12 @@ impl Reader<'_> {
     pub fn value(
         &self,
         levels: usize,
+        path: &Path<'_>,
         expression: &Expression,
         point: Point,
     ) -> Result<Value, Fault>
         requires { levels ≤ 1024 }
-        ensures value { Returns result (value.value (setting_of self.now.names.now) self.now.statement (known_of self.now.table.now) levels expression.now point) }
+        ensures value { Returns result (value.value (setting_of self.now.names.now) self.now.statement (known_of self.now.table.now) levels (path_of path.now) expression.now point) }
         ensures height { IfOk result (λ v. v.height ≤ levels) }
     {
         if levels == 0 {
@@ -75,13 +84,13 @@ impl Reader<'_> {
                 statement: self.statement,
             });
         }
-        self.node(levels - 1, expression, point)
+        self.node(levels - 1, path, expression, point)
     }
 
     #[cycle(evaluation)]
-    fn node(&self, levels: usize, expression: &Expression, point: Point) -> Result<Value, Fault>
+    fn node(&self, levels: usize, path: &Path<'_>, expression: &Expression, point: Point) -> Result<Value, Fault>
         requires { levels < 1024 }
-        ensures value { Returns result (spec.node self.now levels expression.now point) }
+        ensures value { Returns result (spec.node self.now levels (path_of path.now) expression.now point) }
         ensures height { IfOk result (λ v. v.height ≤ levels + 1) }
     {
         match expression {
@@ -97,10 +106,10 @@ impl Reader<'_> {
             | Expression::RightShift(a, b)
             | Expression::Min(a, b)
             | Expression::Max(a, b) => {
-                self.calculated(levels, arithmetic(expression), a.get(), b.get(), point)
+                self.calculated(levels, path, arithmetic(expression), a.get(), b.get(), point)
             }
             Expression::Divide(a, b) | Expression::Modulo(a, b) => {
-                self.divided(levels, division(expression), a.get(), b.get(), point)
+                self.divided(levels, path, division(expression), a.get(), b.get(), point)
             }
             Expression::LessEqual(a, b)
             | Expression::GreaterEqual(a, b)
@@ -108,20 +117,27 @@ impl Reader<'_> {
             | Expression::NotEqual(a, b)
             | Expression::LessThan(a, b)
             | Expression::GreaterThan(a, b) => {
-                self.compared(levels, comparison(expression), a.get(), b.get(), point)
+                self.compared(levels, path, comparison(expression), a.get(), b.get(), point)
             }
             Expression::LogicalAnd(a, b) | Expression::LogicalOr(a, b) => {
-                self.connected(levels, connective(expression), a.get(), b.get(), point)
+                self.connected(levels, path, connective(expression), a.get(), b.get(), point)
             }
             Expression::LogicalNot(a) | Expression::BitwiseNot(a) | Expression::Negate(a) => {
-                self.turned(levels, unary(expression), a.get(), point)
+                self.turned(levels, path, unary(expression), a.get(), point)
             }
             Expression::Ternary(condition, a, b) => {
-                self.choice(levels, condition.get(), a.get(), b.get(), point)
+                self.choice(levels, path, condition.get(), a.get(), b.get(), point)
             }
             Expression::Align(alignment, held) => {
-                self.aligned(levels, alignment.get(), held, point)
+                self.aligned(levels, path, alignment.get(), held, point)
             }
+            Expression::Symbol(name) => self.symbol(levels, path, name, point),
+            Expression::Sizeof(name) => self.size(name),
+            Expression::Alignof(name) => Ok(self.alignment(name)),
+            Expression::Addr(name) => self.start_named(name),
+            Expression::Loadaddr(name) => self.load_named(name),
+            Expression::Defined(name) => Ok(self.defined(name)),
+            Expression::Assert(command) => self.asserted(levels, path, command, point),
             _ => Err(Fault::Unsupported {
                 index: self.statement,
             }),
@@ -134,17 +150,18 @@ impl Reader<'_> {
     fn calculated(
         &self,
         levels: usize,
+        path: &Path<'_>,
         operator: Arithmetic,
         a: &Expression,
         b: &Expression,
         point: Point,
     ) -> Result<Value, Fault>
         requires { levels < 1024 }
-        ensures value { Returns result (spec.calculated self.now levels operator a.now b.now point) }
+        ensures value { Returns result (spec.calculated self.now levels (path_of path.now) operator a.now b.now point) }
         ensures height { IfOk result (λ v. v.height ≤ levels + 1) }
     {
-        let x = self.value(levels, a, point)?;
-        let y = self.value(levels, b, point)?;
+        let x = self.value(levels, path, a, point)?;
+        let y = self.value(levels, path, b, point)?;
         Ok(over_both(apply(operator, x.number, y.number), x, y))
     }
 
@@ -154,20 +171,21 @@ impl Reader<'_> {
     fn divided(
         &self,
         levels: usize,
+        path: &Path<'_>,
         operator: Division,
         a: &Expression,
         b: &Expression,
         point: Point,
     ) -> Result<Value, Fault>
         requires { levels < 1024 }
-        ensures value { Returns result (spec.divided self.now levels operator a.now b.now point) }
+        ensures value { Returns result (spec.divided self.now levels (path_of path.now) operator a.now b.now point) }
         ensures height { IfOk result (λ v. v.height ≤ levels + 1) }
     {
-        let y = self.value(levels, b, point)?;
+        let y = self.value(levels, path, b, point)?;
         if y.number == 0 {
             return Err(zero_divisor(operator, self.statement));
         }
-        let x = self.value(levels, a, point)?;
+        let x = self.value(levels, path, a, point)?;
         Ok(over_both(divide(operator, x.number, y.number), x, y))
     }
 
@@ -177,18 +195,19 @@ impl Reader<'_> {
     fn compared(
         &self,
         levels: usize,
+        path: &Path<'_>,
         comparison: Comparison,
         a: &Expression,
         b: &Expression,
         point: Point,
     ) -> Result<Value, Fault>
         requires { levels < 1024 }
-        ensures value { Returns result (spec.compared self.now levels comparison a.now b.now point) }
+        ensures value { Returns result (spec.compared self.now levels (path_of path.now) comparison a.now b.now point) }
         ensures height { IfOk result (λ v. v.height ≤ levels + 1) }
     {
-        let x = self.value(levels, a, point)?;
+        let x = self.value(levels, path, a, point)?;
         let first = self.based(point, x)?;
-        let y = self.value(levels, b, point)?;
+        let y = self.value(levels, path, b, point)?;
         self.judged(comparison, point, first, x, y)
     }
 
@@ -198,20 +217,21 @@ impl Reader<'_> {
     fn connected(
         &self,
         levels: usize,
+        path: &Path<'_>,
         operator: Connective,
         a: &Expression,
         b: &Expression,
         point: Point,
     ) -> Result<Value, Fault>
         requires { levels < 1024 }
-        ensures value { Returns result (spec.connected self.now levels operator a.now b.now point) }
+        ensures value { Returns result (spec.connected self.now levels (path_of path.now) operator a.now b.now point) }
         ensures height { IfOk result (λ v. v.height ≤ levels + 1) }
     {
-        let x = self.value(levels, a, point)?;
+        let x = self.value(levels, path, a, point)?;
         if decides(operator, x.number) {
             return Ok(over(truth_of(x.number), x));
         }
-        let y = self.value(levels, b, point)?;
+        let y = self.value(levels, path, b, point)?;
         Ok(over_both(truth_of(y.number), x, y))
     }
 
@@ -221,15 +241,16 @@ impl Reader<'_> {
     fn turned(
         &self,
         levels: usize,
+        path: &Path<'_>,
         operator: Unary,
         a: &Expression,
         point: Point,
     ) -> Result<Value, Fault>
         requires { levels < 1024 }
-        ensures value { Returns result (spec.turned self.now levels operator a.now point) }
+        ensures value { Returns result (spec.turned self.now levels (path_of path.now) operator a.now point) }
         ensures height { IfOk result (λ v. v.height ≤ levels + 1) }
     {
-        let x = self.value(levels, a, point)?;
+        let x = self.value(levels, path, a, point)?;
         Ok(over(change(operator, x.number), x))
     }
 
@@ -239,17 +260,18 @@ impl Reader<'_> {
     fn choice(
         &self,
         levels: usize,
+        path: &Path<'_>,
         condition: &Expression,
         a: &Expression,
         b: &Expression,
         point: Point,
     ) -> Result<Value, Fault>
         requires { levels < 1024 }
-        ensures value { Returns result (spec.choice self.now levels condition.now a.now b.now point) }
+        ensures value { Returns result (spec.choice self.now levels (path_of path.now) condition.now a.now b.now point) }
         ensures height { IfOk result (λ v. v.height ≤ levels + 1) }
     {
-        let x = self.value(levels, condition, point)?;
-        let y = self.value(levels, chosen(x.number, a, b), point)?;
+        let x = self.value(levels, path, condition, point)?;
+        let y = self.value(levels, path, chosen(x.number, a, b), point)?;
         Ok(over_both(y.number, x, y))
     }
 
@@ -259,21 +281,22 @@ impl Reader<'_> {
     fn aligned(
         &self,
         levels: usize,
+        path: &Path<'_>,
         alignment: &Expression,
         held: &Option<Boxed<Expression>>,
         point: Point,
     ) -> Result<Value, Fault>
         requires { levels < 1024 }
-        ensures value { Returns result (spec.aligned self.now levels alignment.now held.now point) }
+        ensures value { Returns result (spec.aligned self.now levels (path_of path.now) alignment.now held.now point) }
         ensures height { IfOk result (λ v. v.height ≤ levels + 1) }
     {
-        let x = self.value(levels, alignment, point)?;
+        let x = self.value(levels, path, alignment, point)?;
         if x.number == 0 {
             return Err(Fault::AlignZero {
                 statement: self.statement,
             });
         }
-        let y = self.subject(levels, held, point)?;
+        let y = self.subject(levels, path, held, point)?;
         self.raised(x, y)
     }
 
@@ -282,16 +305,110 @@ impl Reader<'_> {
     fn subject(
         &self,
         levels: usize,
+        path: &Path<'_>,
         held: &Option<Boxed<Expression>>,
         point: Point,
     ) -> Result<Value, Fault>
         requires { levels < 1024 }
-        ensures value { Returns result (spec.subject self.now levels held.now point) }
+        ensures value { Returns result (spec.subject self.now levels (path_of path.now) held.now point) }
         ensures height { IfOk result (λ v. v.height ≤ levels) }
     {
         match held {
-            Some(expression) => self.value(levels, expression.get(), point),
+            Some(expression) => self.value(levels, path, expression.get(), point),
             None => self.counter_number(point),
         }
+    }
+
+    // A symbol, unless it is on the path.
+    #[cycle(evaluation)]
+    #[tactic(auto, unfolding(wild_value_spec::specs::Value::symbol))]
+    fn symbol(
+        &self,
+        levels: usize,
+        path: &Path<'_>,
+        name: &Name,
+        point: Point,
+    ) -> Result<Value, Fault>
+        requires { levels < 1024 }
+        ensures value { Returns result (spec.symbol self.now levels (path_of path.now) name.now point) }
+        ensures height { IfOk result (λ v. v.height ≤ levels + 1) }
+    {
+        match self.names.definition(name) {
+            None => self.unknown_symbol(name),
+            Some(definition) => {
+                if path.has(name) {
+                    return self.symbol_cycle(name);
+                }
+                self.symbol_by(levels, path, name, definition, point)
+            }
+        }
+    }
+
+    #[cycle(evaluation)]
+    fn symbol_by(
+        &self,
+        levels: usize,
+        path: &Path<'_>,
+        name: &Name,
+        definition: Definition<'_>,
+        point: Point,
+    ) -> Result<Value, Fault>
+        requires { levels < 1024 }
+        ensures value { Returns result (spec.symbol_by self.now levels (path_of path.now) name.now (shown_definition definition.entry) point) }
+        ensures height { IfOk result (λ v. v.height ≤ levels + 1) }
+    {
+        match definition {
+            Definition::OfRow {
+                row,
+                offset,
+                section,
+            } => self.table_symbol(name, row, offset, section, point),
+            Definition::OfScript { value, point: own } => {
+                self.script_symbol(levels, path, name, value, own, point)
+            }
+        }
+    }
+
+    // The full value of an expression at its own point, with its symbol on the path.
+    #[cycle(evaluation)]
+    #[tactic(auto, unfolding(wild_value_spec::specs::Value::script_symbol))]
+    fn script_symbol(
+        &self,
+        levels: usize,
+        path: &Path<'_>,
+        name: &Name,
+        expression: &Expression,
+        own: Point,
+        point: Point,
+    ) -> Result<Value, Fault>
+        requires { levels < 1024 }
+        ensures value { Returns result (spec.script_symbol self.now levels (path_of path.now) name.now expression.now own point) }
+        ensures height { IfOk result (λ v. v.height ≤ levels + 1) }
+    {
+        let longer = Path::Through(&*name, &*path);
+        let found = self.value(levels, &longer, expression, own)?;
+        let address = self.based(own, found)?;
+        self.used(name, own.section, point, address, found.height)
+    }
+
+    // A condition, which must not be 0.
+    #[cycle(evaluation)]
+    #[tactic(auto, unfolding(wild_value_spec::specs::Value::asserted))]
+    fn asserted(
+        &self,
+        levels: usize,
+        path: &Path<'_>,
+        command: &AssertCommand,
+        point: Point,
+    ) -> Result<Value, Fault>
+        requires { levels < 1024 }
+        ensures value { Returns result (spec.asserted self.now levels (path_of path.now) command.now point) }
+        ensures height { IfOk result (λ v. v.height ≤ levels + 1) }
+    {
+        let x = self.value(levels, path, command.expression.get(), point)?;
+        if x.number == 0 {
+            return self.failed(command);
+        }
+        Ok(over(x.number, x))
     }
 }

@@ -101,6 +101,27 @@ impl Table {
         number(&self.starts, section)
     }
 
+    /// The load address of a section, where it is known.
+    pub fn known_load(&self, section: usize) -> Option<u64>
+        ensures { result ≡ known_of self.now (Load section) }
+    {
+        number(&self.loads, section)
+    }
+
+    /// Where a section ends, where that is known.
+    pub fn known_end(&self, section: usize) -> Option<u64>
+        ensures { result ≡ known_of self.now (End section) }
+    {
+        number(&self.ends, section)
+    }
+
+    /// The address of a row, where it is known.
+    pub fn known_address(&self, row: usize) -> Option<u64>
+        ensures { result ≡ known_of self.now (Address row) }
+    {
+        number(&self.addresses, row)
+    }
+
     /// The location counter at a place, where it is known.
     pub fn known_dot(&self, place: usize) -> Option<u64>
         ensures { result ≡ known_of self.now (Dot place) }

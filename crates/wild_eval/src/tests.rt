@@ -1,8 +1,8 @@
-use crate::{ConstFault, Point, Reader, Table, evaluate_const};
+use crate::{ConstFault, Names, Path, Point, Reader, Table, evaluate_const};
 use sqlite_items::Boxed;
 use std::alloc::Global;
 use std::test::Fail;
-use wild_base::{Name, NoMemory};
+use wild_base::{Alignment, Name, NoMemory, Numbering};
 use wild_expression_tree::Expression;
 
 type Tree = Boxed<Expression>;
@@ -158,13 +158,22 @@ fn read(alloc: Global, index: usize, point: Point) -> Result<Result<u64, u32>, N
     let tree = sample(alloc, index)?;
     let table = learn(alloc)?;
     let name = Name::new(alloc, b".a")?;
+    let numbers = Numbering::new(alloc);
+    let names = Names {
+        sections: &[&name],
+        section_numbers: &numbers,
+        alignments: &[Alignment::default()],
+        symbols: &numbers,
+        entries: &[],
+        script: b"",
+    };
     let reader = Reader {
         alloc,
-        names: &[&name],
+        names: &names,
         table: &table,
         statement: 7,
     };
-    match reader.full(tree.get(), point) {
+    match reader.full(&Path::Start, tree.get(), point) {
         Ok(number) => Ok(Ok(number)),
         Err(fault) => Ok(Err(fault.number())),
     }

@@ -1,5 +1,5 @@
 -- What an expression is read by, beside what is known of the layout.
-use Rattle.std.specs.Prelude.{ℕ, ◌+◌, ◌==◌, List, Option, take, count_by}
+use Rattle.std.specs.Prelude.{ℕ, ◌+◌, ◌==◌, List, Option, count_by, take}
 use Rattle.wild_expression_tree.specs.declared.tree.AssertCommand.{AssertCommand}
 use Rattle.wild_expression_tree.specs.declared.tree.Expression.{Expression}
 use Rattle.wild_expression_tree.specs.declared.tree.Expression.TheOpen.{Expression-F}
@@ -31,6 +31,6 @@ pub record Setting : Type 0 where
   -- the line of a position of the script, from 1
   pub line : ℕ → ℕ
 
--- one more than the newlines before a position
+-- the line of a position: 1, and one more for each newline before it
 unfoldable pub line_of : List ℕ → ℕ → ℕ
 line_of script i = count_by (λ b. b == 10) (take i script) + 1

@@ -38,6 +38,10 @@ zero_divisor division.Modulo statement = ModuloByZero statement
 unfoldable pub chosen : ℕ → Expression → Expression → Expression
 chosen condition a b = if condition == 0 then b else a
 
+-- whether a name is on a path: the symbols that are being evaluated
+abbrev pub is_on : Name → List Name → Bool
+is_on name path = list_any (is_named name) path
+
 -- ---- numbers that may be refused
 
 -- the sum, up to 2 ^ 64 - 1
@@ -163,10 +167,7 @@ module _ (setting : Setting) (statement : ℕ) (known : Known) where
   table_symbol name row offset s p =
       row_of name row >>= (λ start. sum_of start offset >>= (λ address. used name (Some s) p address 0))
 
-  abbrev pub is_on : Name → List Name → Bool
-  is_on name path = list_any (is_named name) path
-
-  -- ---- the kinds of nodes, over their parts, whose values `eval` gives on a path: the symbols that are being evaluated
+  -- ---- the kinds of nodes, over their parts, whose values `eval` gives on a path
   module _ (eval : List Name → Expression → Point → Result Value Fault) (path : List Name) where
     abbrev pub part : Expression → Point → Result Value Fault
     part = eval path

@@ -30,3 +30,15 @@ decreases-aligned l = 8 * l.levels + 6
 
 abbrev pub decreases-subject : goal.decreases-subject
 decreases-subject l = 8 * l.levels + 5
+
+abbrev pub decreases-symbol : goal.decreases-symbol
+decreases-symbol l = 8 * l.levels + 6
+
+abbrev pub decreases-symbol_by : goal.decreases-symbol_by
+decreases-symbol_by l = 8 * l.levels + 5
+
+abbrev pub decreases-script_symbol : goal.decreases-script_symbol
+decreases-script_symbol l = 8 * l.levels + 4
+
+abbrev pub decreases-asserted : goal.decreases-asserted
+decreases-asserted l = 8 * l.levels + 6

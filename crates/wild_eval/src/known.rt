@@ -1,0 +1,89 @@
+//! What a reader's table knows, and the faults of what it does not.
+
+ghost use Rattle.std.specs.Prelude.{◌≡◌, Ok};
+ghost use Rattle.wild_eval.specs.Plain as spec;
+ghost use Rattle.wild_value_spec.specs.Answer.{Returns};
+
+use crate::plain::Reader;
+use wild_base::{Fault, Name};
+
+impl Reader<'_> {
+    fn section_name(&self, section: usize) -> Result<Name, Fault>
+        ensures { Returns result (Ok ((spec.setting self.now).section_name section)) }
+    {
+        Ok(Name::new(self.alloc, self.names.name_of(section))?)
+    }
+
+    // The same name once more.
+    pub(crate) fn copied(&self, name: &Name) -> Result<Name, Fault>
+        ensures { Returns result (Ok name.now) }
+    {
+        Ok(name.copy(self.alloc)?)
+    }
+
+    #[tactic(auto, unfolding(wild_value_spec::specs::Value::dot_of))]
+    pub(crate) fn dot(&self, place: usize) -> Result<u64, Fault>
+        ensures { Returns result (spec.dot_of self.now place) }
+    {
+        match self.table.known_dot(place) {
+            Some(dot) => Ok(dot),
+            None => Err(Fault::NotLaidOut {
+                statement: self.statement,
+                name: Name::new(self.alloc, b".")?,
+            }),
+        }
+    }
+
+    #[tactic(auto, unfolding(wild_value_spec::specs::Value::start_of))]
+    pub(crate) fn start(&self, section: usize) -> Result<u64, Fault>
+        ensures { Returns result (spec.start_of self.now section) }
+    {
+        match self.table.known_start(section) {
+            Some(number) => Ok(number),
+            None => Err(Fault::NotLaidOut {
+                statement: self.statement,
+                name: self.section_name(section)?,
+            }),
+        }
+    }
+
+    #[tactic(auto, unfolding(wild_value_spec::specs::Value::load_of))]
+    pub(crate) fn load(&self, section: usize) -> Result<u64, Fault>
+        ensures { Returns result (spec.load_of self.now section) }
+    {
+        match self.table.known_load(section) {
+            Some(number) => Ok(number),
+            None => Err(Fault::NotLaidOut {
+                statement: self.statement,
+                name: self.section_name(section)?,
+            }),
+        }
+    }
+
+    #[tactic(auto, unfolding(wild_value_spec::specs::Value::end_of))]
+    pub(crate) fn end(&self, section: usize) -> Result<u64, Fault>
+        ensures { Returns result (spec.end_of self.now section) }
+    {
+        match self.table.known_end(section) {
+            Some(number) => Ok(number),
+            None => Err(Fault::NotLaidOut {
+                statement: self.statement,
+                name: self.section_name(section)?,
+            }),
+        }
+    }
+
+    // The address of the row of a symbol.
+    #[tactic(auto, unfolding(wild_value_spec::specs::Value::row_of))]
+    pub(crate) fn address(&self, name: &Name, row: usize) -> Result<u64, Fault>
+        ensures { Returns result (spec.row_of self.now name.now row) }
+    {
+        match self.table.known_address(row) {
+            Some(address) => Ok(address),
+            None => Err(Fault::NotLaidOut {
+                statement: self.statement,
+                name: self.copied(name)?,
+            }),
+        }
+    }
+}

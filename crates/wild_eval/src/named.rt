@@ -1,0 +1,194 @@
+//! What a reader makes of the names of sections and symbols without looking into a part.
+
+ghost use Rattle.std.specs.Prelude.{◌≡◌, ◌<◌, ◌≤◌, ◌+◌, IfOk, Err, Some};
+ghost use Rattle.wild_base.specs.declared.fault.Fault.TheVariants as fault;
+ghost use Rattle.wild_eval.specs.Plain as spec;
+ghost use Rattle.wild_value_spec.specs.Answer.{Returns};
+
+use crate::arithmetic::truth;
+use crate::marks::{absolutely, absolutely_over, relatively_over, unmarked};
+use crate::plain::Reader;
+use wild_base::{Fault, Name};
+use wild_expression_tree::AssertCommand;
+use wild_value_spec::{Point, Value};
+
+impl Reader<'_> {
+    // End minus start, the end first.
+    #[tactic(auto, unfolding(wild_value_spec::specs::Value::extent))]
+    fn extent(&self, section: usize) -> Result<Value, Fault>
+        ensures value { Returns result (spec.extent self.now section) }
+        ensures height { IfOk result (λ v. v.height ≤ 1) }
+    {
+        let end = self.end(section)?;
+        let start = self.start(section)?;
+        Ok(unmarked(end.saturating_sub(start)))
+    }
+
+    #[tactic(auto, unfolding(wild_value_spec::specs::Value::size))]
+    pub(crate) fn size(&self, name: &Name) -> Result<Value, Fault>
+        ensures value { Returns result (spec.size self.now name.now) }
+        ensures height { IfOk result (λ v. v.height ≤ 1) }
+    {
+        match self.names.section(name) {
+            Some(section) => self.extent(section),
+            None => Ok(unmarked(0)),
+        }
+    }
+
+    #[tactic(auto, unfolding(wild_value_spec::specs::Value::alignment))]
+    pub(crate) fn alignment(&self, name: &Name) -> Value
+        ensures value { result ≡ spec.alignment self.now name.now }
+        ensures height { result.height ≤ 1 }
+    {
+        match self.names.section(name) {
+            Some(section) => unmarked(self.names.alignment(section).value()),
+            None => unmarked(0),
+        }
+    }
+
+    fn unknown_section(&self, name: &Name) -> Result<Value, Fault>
+        ensures value { Returns result (Err (fault.UnknownSection name.now)) }
+        ensures height { IfOk result (λ v. v.height ≤ 1) }
+    {
+        Err(Fault::UnknownSection {
+            name: self.copied(name)?,
+        })
+    }
+
+    #[tactic(auto, unfolding(wild_value_spec::specs::Value::start_named))]
+    pub(crate) fn start_named(&self, name: &Name) -> Result<Value, Fault>
+        ensures value { Returns result (spec.start_named self.now name.now) }
+        ensures height { IfOk result (λ v. v.height ≤ 1) }
+    {
+        match self.names.section(name) {
+            Some(section) => Ok(absolutely(self.start(section)?)),
+            None => self.unknown_section(name),
+        }
+    }
+
+    #[tactic(auto, unfolding(wild_value_spec::specs::Value::load_named))]
+    pub(crate) fn load_named(&self, name: &Name) -> Result<Value, Fault>
+        ensures value { Returns result (spec.load_named self.now name.now) }
+        ensures height { IfOk result (λ v. v.height ≤ 1) }
+    {
+        match self.names.section(name) {
+            Some(section) => Ok(absolutely(self.load(section)?)),
+            None => self.unknown_section(name),
+        }
+    }
+
+    #[tactic(auto, unfolding(wild_value_spec::specs::Value::defined))]
+    pub(crate) fn defined(&self, name: &Name) -> Value
+        ensures value { result ≡ spec.defined self.now name.now }
+        ensures height { result.height ≤ 1 }
+    {
+        unmarked(truth(self.names.definition(name).is_some()))
+    }
+
+    // An address counted from the start of its section.
+    #[tactic(auto, unfolding(wild_value_spec::specs::Value::from_start))]
+    fn from_start(
+        &self,
+        name: &Name,
+        address: u64,
+        height: usize,
+        start: u64,
+    ) -> Result<Value, Fault>
+        requires { height < 1024 }
+        ensures value { Returns result (spec.from_start self.now name.now address height start) }
+        ensures height { IfOk result (λ v. v.height ≡ height + 1) }
+    {
+        if address < start {
+            return Err(Fault::BeforeSection {
+                name: self.copied(name)?,
+            });
+        }
+        Ok(relatively_over(address - start, height))
+    }
+
+    // The address of a symbol of a section, as it is read in one.
+    fn used_in(
+        &self,
+        name: &Name,
+        address: u64,
+        height: usize,
+        section: usize,
+        other: usize,
+    ) -> Result<Value, Fault>
+        requires { height < 1024 }
+        ensures value { Returns result (spec.used_in self.now name.now address height (Some section) (Some other)) }
+        ensures height { IfOk result (λ v. v.height ≡ height + 1) }
+    {
+        if section != other {
+            return Ok(absolutely_over(address, height));
+        }
+        let start = self.start(section)?;
+        self.from_start(name, address, height, start)
+    }
+
+    // The address of a symbol of that section, as it is read at a point.
+    #[tactic(auto, unfolding(wild_value_spec::specs::Value::used))]
+    pub(crate) fn used(
+        &self,
+        name: &Name,
+        section: Option<usize>,
+        point: Point,
+        address: u64,
+        height: usize,
+    ) -> Result<Value, Fault>
+        requires { height < 1024 }
+        ensures value { Returns result (spec.used self.now name.now section point address height) }
+        ensures height { IfOk result (λ v. v.height ≡ height + 1) }
+    {
+        match (section, point.section) {
+            (Some(section), Some(other)) => self.used_in(name, address, height, section, other),
+            _ => Ok(absolutely_over(address, height)),
+        }
+    }
+
+    // A symbol of the table: so far behind the start of its row.
+    #[tactic(auto, unfolding(wild_value_spec::specs::Value::table_symbol))]
+    pub(crate) fn table_symbol(
+        &self,
+        name: &Name,
+        row: usize,
+        offset: u64,
+        section: usize,
+        point: Point,
+    ) -> Result<Value, Fault>
+        ensures value { Returns result (spec.table_symbol self.now name.now row offset section point) }
+        ensures height { IfOk result (λ v. v.height ≤ 1) }
+    {
+        let start = self.address(name, row)?;
+        let address = self.sum(start, offset)?;
+        self.used(name, Some(section), point, address, 0)
+    }
+
+    pub(crate) fn unknown_symbol(&self, name: &Name) -> Result<Value, Fault>
+        ensures value { Returns result (Err (fault.UnknownSymbol name.now)) }
+        ensures height { IfOk result (λ v. v.height ≤ 1) }
+    {
+        Err(Fault::UnknownSymbol {
+            name: self.copied(name)?,
+        })
+    }
+
+    pub(crate) fn symbol_cycle(&self, name: &Name) -> Result<Value, Fault>
+        ensures value { Returns result (Err (fault.SymbolCycle name.now)) }
+        ensures height { IfOk result (λ v. v.height ≤ 1) }
+    {
+        Err(Fault::SymbolCycle {
+            name: self.copied(name)?,
+        })
+    }
+
+    pub(crate) fn failed(&self, command: &AssertCommand) -> Result<Value, Fault>
+        ensures value { Returns result (Err (fault.AssertFailed ((spec.setting self.now).line command.now.at) command.now.message)) }
+        ensures height { IfOk result (λ v. v.height ≤ 1) }
+    {
+        Err(Fault::AssertFailed {
+            line: self.names.line(command.at),
+            message: self.copied(&command.message)?,
+        })
+    }
+}
