@@ -41,7 +41,7 @@ abbrev mutual
   is_built names (BitwiseNot' p x) = is_row_built names x
   is_built names (Negate' p x) = is_row_built names x
   is_built names (Ternary' p x q y r z) = is_row_built names x && (is_row_built names y && is_row_built names z)
-  is_built names (Align' p x held) = is_row_built names x && is_held_built held
+  is_built names (Align' p x held) = is_row_built names x && is_held_built names held
   is_built names (SegmentStart' s p x) = false
   is_built names (Assert' p x message at) = names && is_row_built names x
 
