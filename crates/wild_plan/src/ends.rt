@@ -85,7 +85,7 @@ impl End<'_> {
     }
 
     // An empty name is not listed.
-    #[tactic(auto, using(crate::proofs::Ends::assigned_by_name))]
+    #[tactic(auto, using(crate::proofs::Named::assigned_by_name))]
     fn assigned(
         &self,
         place: usize,
