@@ -1,7 +1,7 @@
 -- Outermost commands.
 use Rattle.std.specs.Prelude.{ℕ, Bool, not, List}
 use Rattle.wild_reading.specs.Bytes.{begins}
-use Rattle.wild_reading.specs.Reader.{Reader, ◌>>=◌, ◌>>◌, Give, check, Choice, If, Until}
+use Rattle.wild_reading.specs.Reader.{Reader, ◌>>=◌, ◌>>◌, Give, check, If, Until}
 use Rattle.wild_reading.specs.Lex.{word, symbol, optional_symbol}
 use Rattle.wild_expression.specs.Parts.{assert_body}
 use Rattle.wild_script.specs.Words.{is_sections, is_assert, is_provide, is_provide_hidden, is_to_come}

@@ -1,5 +1,5 @@
 -- Words that statements begin with.
-use Rattle.std.specs.Prelude.{ℕ, Bool, ◌||◌, codes}
+use Rattle.std.specs.Prelude.{Bool, ◌||◌, codes}
 use Rattle.std.specs.Str.{bytes_eq}
 use Rattle.wild_reading.specs.Place.{Bytes}
 

@@ -1,6 +1,6 @@
 //! Reads outermost commands.
 
-ghost use Rattle.std.specs.Prelude.{◌≡◌, ◌<◌, OnOk};
+ghost use Rattle.std.specs.Prelude.{◌<◌, OnOk};
 ghost use Rattle.wild_reading.specs.Only.{Answers};
 ghost use Rattle.wild_reading.specs.Place.{ahead};
 ghost use Rattle.wild_script.specs.Outermost as spec;
