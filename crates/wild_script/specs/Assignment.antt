@@ -4,7 +4,7 @@ use Rattle.std.specs.Str.{bytes_eq}
 use Rattle.wild_reading.specs.Place.{Bytes}
 use Rattle.wild_reading.specs.Bytes.{begins}
 use Rattle.wild_reading.specs.Reader.{Reader, ◌>>=◌, ◌>>◌, Give, Takes, Choice}
-use Rattle.wild_reading.specs.Lex.{gap, symbol}
+use Rattle.wild_reading.specs.Lex.{gap, symbol, optional_symbol}
 use Rattle.wild_expression_tree.specs.declared.tree.Expression.{Expression}
 use Rattle.wild_expression_tree.specs.declared.tree.Expression.TheVariants as e
 use Rattle.wild_expression_words.specs.declared.operators.Level.TheVariants.{Ternary}
@@ -83,3 +83,17 @@ changed_value name = do
 -- what is assigned to a name
 unfoldable pub assigned : List ℕ → Reader Expression
 assigned name = Choice begins_set set_value (changed_value name)
+
+-- what is assigned to a name; a semicolon or none
+unfoldable pub open_value : List ℕ → Reader Expression
+open_value name = do
+  x ← assigned name
+  optional_symbol 59
+  Give x
+
+-- what is assigned to a name, and a semicolon
+unfoldable pub closed_value : List ℕ → Reader Expression
+closed_value name = do
+  x ← assigned name
+  symbol 59
+  Give x

@@ -3,9 +3,12 @@ use Rattle.std.specs.Prelude.{ℕ, Bool, not, ◌||◌, List, [], None, false, c
 use Rattle.std.specs.Str.{bytes_eq}
 use Rattle.wild_reading.specs.Place.{Bytes}
 use Rattle.wild_reading.specs.Bytes.{begins}
-use Rattle.wild_reading.specs.Reader.{Reader, ◌>>=◌, ◌>>◌, Give, check, Ahead, Choice, Until}
+use Rattle.wild_reading.specs.Reader.{Reader, ◌>>=◌, ◌>>◌, Give, check, Ahead, Choice, If, Until}
 use Rattle.wild_reading.specs.Lex.{word, symbol, optional_symbol}
-use Rattle.wild_script.specs.Assignment.{is_dot, begins_assignment, assigned}
+use Rattle.wild_expression.specs.Parts.{assert_body}
+use Rattle.wild_script.specs.Words.{is_assert, is_provide, is_provide_hidden}
+use Rattle.wild_script.specs.Assignment.{is_dot, begins_assignment, closed_value}
+use Rattle.wild_script.specs.Provide.{provided}
 use Rattle.wild_script.specs.Pattern.{pattern_list}
 use Rattle.wild_script.specs.declared.tree.ContentsCommand.{ContentsCommand}
 use Rattle.wild_script.specs.declared.tree.ContentsCommand.TheVariants.{Matcher}
@@ -28,9 +31,9 @@ contents_statement = do
 unfoldable pub contents : Reader (List ContentsCommand)
 contents = Until (begins 125) contents_statement
 
--- a name that isn't empty and isn't one of the words that mean something else
+-- a name that isn't empty and isn't that of what is thrown away
 unfoldable pub is_section_name : Bytes → Bool
-is_section_name name = not (bytes_eq name [] || bytes_eq name (codes "ASSERT") || bytes_eq name (codes "PROVIDE") || bytes_eq name (codes "PROVIDE_HIDDEN") || bytes_eq name (codes "/DISCARD/"))
+is_section_name name = not (bytes_eq name [] || bytes_eq name (codes "/DISCARD/"))
 
 -- none of the bytes with which headers, a region or a fill begin
 unfoldable pub has_no_tail : Bytes → ℕ → Bool
@@ -51,16 +54,41 @@ section name = do
   optional_symbol 44
   Give (command.Section (record { output_section_name = name; commands = statements }))
 
--- behind the name of the location counter: what is assigned to it, and a semicolon
+-- the brackets of an ASSERT
+unfoldable pub assert_statement : Reader SectionCommand
+assert_statement = do
+  body ← assert_body
+  Give (command.Assert body)
+
+unfoldable pub provide_statement : Bool → Reader SectionCommand
+provide_statement is_hidden = do
+  provide ← provided is_hidden
+  Give (command.Provide provide)
+
+-- what is assigned to the location counter
 unfoldable pub location : List ℕ → Reader SectionCommand
 location name = do
-  check (is_dot name)
-  value ← assigned name
-  symbol 59
-  Give (command.SetLocation (record { address = value }))
+  x ← closed_value name
+  Give (command.SetLocation (record { address = x }))
 
+-- what is assigned to a symbol
+unfoldable pub symbol_assignment : List ℕ → Reader SectionCommand
+symbol_assignment name = do
+  x ← closed_value name
+  Give (command.SymbolAssignment (record { name = name; expr = x }))
+
+unfoldable pub assignment : List ℕ → Reader SectionCommand
+assignment name = If (is_dot name) (location name) (symbol_assignment name)
+
+unfoldable pub assignment_or_section : List ℕ → Reader SectionCommand
+assignment_or_section name = Choice begins_assignment (assignment name) (section name)
+
+unfoldable pub provide_or_named : List ℕ → Reader SectionCommand
+provide_or_named name = If (is_provide name) (provide_statement (is_provide_hidden name)) (assignment_or_section name)
+
+-- behind the first word of a statement
 unfoldable pub behind : List ℕ → Reader SectionCommand
-behind name = Choice begins_assignment (location name) (section name)
+behind name = If (is_assert name) assert_statement (provide_or_named name)
 
 -- a statement in SECTIONS
 unfoldable pub statement : Reader SectionCommand

@@ -1,45 +1,20 @@
 -- The trees that bytes are read as.
-use Rattle.std.specs.Prelude.{◌≡◌, ℕ, ◌≤◌, Bool, List, length, codes}
-use Rattle.std.specs.Str.{bytes_eq}
+use Rattle.std.specs.Prelude.{◌≡◌, ℕ, ◌≤◌, List, length}
 use Rattle.wild_base.specs.declared.fault.Fault.{Fault}
 use Rattle.wild_base.specs.declared.fault.Fault.TheVariants.{Syntax, UnclosedComment, UnsupportedNestedSort, TooDeep}
 use Rattle.wild_reading.specs.Place as place
-use Rattle.wild_reading.specs.Bytes.{begins, is_end}
-use Rattle.wild_reading.specs.Reader.{Reader, ◌>>=◌, ◌>>◌, Give, check, Until}
-use Rattle.wild_reading.specs.Lex.{gap, word, symbol}
+use Rattle.wild_reading.specs.Bytes.{is_end}
+use Rattle.wild_reading.specs.Reader.{Reader, ◌>>=◌, ◌>>◌, Give, Until}
+use Rattle.wild_reading.specs.Lex.{gap}
 use Rattle.wild_reading.specs.Only.{IsOpenComment, IsNestedSort}
-use Rattle.wild_script.specs.Section.{statement}
+use Rattle.wild_script.specs.Outermost.{command}
 use Rattle.wild_script.specs.declared.tree.LinkerScript.{LinkerScript}
 use Rattle.wild_script.specs.declared.tree.Command.{Command}
-use Rattle.wild_script.specs.declared.tree.Command.TheVariants.{Sections}
-use Rattle.wild_script.specs.declared.tree.Sections as kept
-use Rattle.wild_script.specs.declared.tree.SectionCommand.{SectionCommand}
 
 abbrev pub Bytes : Type 0
 Bytes = place.Bytes
 
 -- ---- scripts
-
-unfoldable pub section_statements : Reader (List SectionCommand)
-section_statements = Until (begins 125) statement
-
--- sections in braces
-unfoldable pub sections : Reader kept.Sections
-sections = do
-  symbol 123
-  statements ← section_statements
-  symbol 125
-  Give (record { commands = statements })
-
-unfoldable pub is_sections : Bytes → Bool
-is_sections content = bytes_eq content (codes "SECTIONS")
-
-unfoldable pub command : Reader Command
-command = do
-  first ← word
-  check (is_sections first.content)
-  statements ← sections
-  Give (Sections statements)
 
 unfoldable pub commands : Reader (List Command)
 commands = Until is_end command

@@ -155,13 +155,9 @@ fn changed_value(
     Ok(value)
 }
 
-/// Reads an assignment operator and an expression, each with the gap behind it: the value that is assigned to the name.
+// An operator and an expression, each with the gap behind it: the value that is assigned to the name.
 #[tactic(auto, using(wild_reading::proofs::Readers::choosing), unfolding(crate::specs::Assignment::assigned))]
-pub fn assigned(
-    cursor: &mut Cursor<'_>,
-    alloc: Global,
-    name: &[u8],
-) -> Result<Boxed<Expression>, Stop>
+fn assigned(cursor: &mut Cursor<'_>, alloc: Global, name: &[u8]) -> Result<Boxed<Expression>, Stop>
     ensures read { Answers (spec.assigned name.now) cursor.old cursor.new result }
     ensures shorter { OnOk result (ahead cursor.new < ahead cursor.old) }
 {
@@ -170,4 +166,32 @@ pub fn assigned(
     } else {
         changed_value(cursor, alloc, name)
     }
+}
+
+/// Reads what is assigned to a name, and a semicolon or none.
+#[tactic(auto, using(wild_reading::proofs::Readers::reading), unfolding(crate::specs::Assignment::open_value))]
+pub fn open_value(
+    cursor: &mut Cursor<'_>,
+    alloc: Global,
+    name: &[u8],
+) -> Result<Boxed<Expression>, Stop>
+    ensures { Answers (spec.open_value name.now) cursor.old cursor.new result }
+{
+    let value = assigned(cursor, alloc, name)?;
+    cursor.optional_symbol(b';')?;
+    Ok(value)
+}
+
+/// Reads what is assigned to a name, and a semicolon.
+#[tactic(auto, using(wild_reading::proofs::Readers::reading), unfolding(crate::specs::Assignment::closed_value))]
+pub fn closed_value(
+    cursor: &mut Cursor<'_>,
+    alloc: Global,
+    name: &[u8],
+) -> Result<Boxed<Expression>, Stop>
+    ensures { Answers (spec.closed_value name.now) cursor.old cursor.new result }
+{
+    let value = assigned(cursor, alloc, name)?;
+    cursor.symbol(b';')?;
+    Ok(value)
 }

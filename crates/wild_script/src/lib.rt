@@ -2,11 +2,14 @@
 #![tactic(auto)]
 
 mod assignment;
+mod outermost;
 mod parse;
 mod pattern;
+mod provide;
 mod script;
 mod section;
 mod tree;
+mod words;
 
 pub use tree::{
     Command, ContentsCommand, LinkerScript, Location, Matcher, ProvideSymbolDefinition, Section,

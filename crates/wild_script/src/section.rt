@@ -1,16 +1,19 @@
-//! Reads output sections.
+//! Reads output sections and the other statements of SECTIONS.
 
 ghost use Rattle.std.specs.Prelude.{◌≡◌, ◌<◌, OnOk};
 ghost use Rattle.wild_reading.specs.Only.{Answers};
 ghost use Rattle.wild_reading.specs.Place.{ahead};
 ghost use Rattle.wild_script.specs.Section as spec;
 
-use crate::assignment::{assigned, begins_assignment, is_dot};
+use crate::assignment::{begins_assignment, closed_value, is_dot};
 use crate::pattern::pattern_list;
-use crate::tree::{ContentsCommand, Location, Matcher, Section, SectionCommand};
+use crate::provide::provided;
+use crate::tree::{ContentsCommand, Location, Matcher, Section, SectionCommand, SymbolAssignment};
+use crate::words::{is_assert, is_provide, is_provide_hidden};
 use sqlite_items::{Boxed, Items};
 use std::alloc::Global;
 use wild_base::Name;
+use wild_expression::assert_body;
 use wild_reading::{Cursor, Grammar, Stop, read_until};
 
 #[tactic(auto, unfolding(crate::specs::Section::is_every_file))]
@@ -55,11 +58,7 @@ fn contents(cursor: &mut Cursor<'_>, alloc: Global) -> Result<Items<ContentsComm
 fn is_section_name(name: &[u8]) -> bool
     ensures { result ≡ spec.is_section_name name.now }
 {
-    !(name == b"".as_slice()
-        || name == b"ASSERT".as_slice()
-        || name == b"PROVIDE".as_slice()
-        || name == b"PROVIDE_HIDDEN".as_slice()
-        || name == b"/DISCARD/".as_slice())
+    !(name == b"".as_slice() || name == b"/DISCARD/".as_slice())
 }
 
 #[tactic(auto, unfolding(crate::specs::Section::has_no_tail))]
@@ -102,27 +101,101 @@ fn section(cursor: &mut Cursor<'_>, alloc: Global, name: &[u8]) -> Result<Sectio
     Ok(SectionCommand::Section(Boxed::new(alloc, section)?))
 }
 
-// What is assigned to the location counter, where the name is its.
+#[tactic(auto, using(wild_reading::proofs::Readers::reading), unfolding(crate::specs::Section::assert_statement))]
+fn assert_statement(cursor: &mut Cursor<'_>, alloc: Global) -> Result<SectionCommand, Stop>
+    ensures { Answers spec.assert_statement cursor.old cursor.new result }
+{
+    let body = assert_body(cursor, alloc)?;
+    Ok(SectionCommand::Assert(body))
+}
+
+#[tactic(auto, using(wild_reading::proofs::Readers::reading), unfolding(crate::specs::Section::provide_statement))]
+fn provide_statement(
+    cursor: &mut Cursor<'_>,
+    alloc: Global,
+    hidden: bool,
+) -> Result<SectionCommand, Stop>
+    ensures { Answers (spec.provide_statement hidden) cursor.old cursor.new result }
+{
+    let provide = provided(cursor, alloc, hidden)?;
+    Ok(SectionCommand::Provide(provide))
+}
+
 #[tactic(auto, using(wild_reading::proofs::Readers::reading), unfolding(crate::specs::Section::location))]
 fn location(cursor: &mut Cursor<'_>, alloc: Global, name: &[u8]) -> Result<SectionCommand, Stop>
     ensures { Answers (spec.location name.now) cursor.old cursor.new result }
 {
-    cursor.check(is_dot(name))?;
-    let value = assigned(cursor, alloc, name)?;
-    cursor.symbol(b';')?;
+    let value = closed_value(cursor, alloc, name)?;
     Ok(SectionCommand::SetLocation(Location {
         address: value.into_inner(),
     }))
+}
+
+#[tactic(auto, using(wild_reading::proofs::Readers::reading), unfolding(crate::specs::Section::symbol_assignment))]
+fn symbol_assignment(
+    cursor: &mut Cursor<'_>,
+    alloc: Global,
+    name: &[u8],
+) -> Result<SectionCommand, Stop>
+    ensures { Answers (spec.symbol_assignment name.now) cursor.old cursor.new result }
+{
+    let value = closed_value(cursor, alloc, name)?;
+    let name = Name::new(alloc, name)?;
+    Ok(SectionCommand::SymbolAssignment(SymbolAssignment {
+        name,
+        expr: value.into_inner(),
+    }))
+}
+
+#[tactic(auto, using(wild_reading::proofs::Readers::choosing), unfolding(crate::specs::Section::assignment))]
+fn assignment(cursor: &mut Cursor<'_>, alloc: Global, name: &[u8]) -> Result<SectionCommand, Stop>
+    ensures { Answers (spec.assignment name.now) cursor.old cursor.new result }
+{
+    if is_dot(name) {
+        location(cursor, alloc, name)
+    } else {
+        symbol_assignment(cursor, alloc, name)
+    }
+}
+
+#[tactic(auto, using(wild_reading::proofs::Readers::choosing), unfolding(crate::specs::Section::assignment_or_section))]
+fn assignment_or_section(
+    cursor: &mut Cursor<'_>,
+    alloc: Global,
+    name: &[u8],
+) -> Result<SectionCommand, Stop>
+    ensures { Answers (spec.assignment_or_section name.now) cursor.old cursor.new result }
+{
+    if begins_assignment(cursor) {
+        assignment(cursor, alloc, name)
+    } else {
+        section(cursor, alloc, name)
+    }
+}
+
+#[tactic(auto, using(wild_reading::proofs::Readers::choosing), unfolding(crate::specs::Section::provide_or_named))]
+fn provide_or_named(
+    cursor: &mut Cursor<'_>,
+    alloc: Global,
+    name: &[u8],
+) -> Result<SectionCommand, Stop>
+    ensures { Answers (spec.provide_or_named name.now) cursor.old cursor.new result }
+{
+    if is_provide(name) {
+        provide_statement(cursor, alloc, is_provide_hidden(name))
+    } else {
+        assignment_or_section(cursor, alloc, name)
+    }
 }
 
 #[tactic(auto, using(wild_reading::proofs::Readers::choosing), unfolding(crate::specs::Section::behind))]
 fn behind(cursor: &mut Cursor<'_>, alloc: Global, name: &[u8]) -> Result<SectionCommand, Stop>
     ensures { Answers (spec.behind name.now) cursor.old cursor.new result }
 {
-    if begins_assignment(cursor) {
-        location(cursor, alloc, name)
+    if is_assert(name) {
+        assert_statement(cursor, alloc)
     } else {
-        section(cursor, alloc, name)
+        provide_or_named(cursor, alloc, name)
     }
 }
 

@@ -1,5 +1,6 @@
 use crate::{
-    Command, ContentsCommand, LinkerScript, Section, SectionCommand, skip_comments_and_whitespace,
+    Command, ContentsCommand, LinkerScript, ProvideSymbolDefinition, Section, SectionCommand,
+    Sections, skip_comments_and_whitespace,
 };
 use std::alloc::{AllocError, Global};
 use std::test::Fail;
@@ -27,24 +28,51 @@ fn push_section(out: &mut String, section: &Section) -> Result<(), AllocError> {
     out.push(';')
 }
 
+fn push_marked(out: &mut String, mark: char, name: &Name) -> Result<(), AllocError> {
+    out.push(mark)?;
+    push_name(out, name)?;
+    out.push(';')
+}
+
+fn push_provide(out: &mut String, provide: &ProvideSymbolDefinition) -> Result<(), AllocError> {
+    let mark = if provide.hidden { '-' } else { '+' };
+    push_marked(out, mark, &provide.name)
+}
+
 fn push_statement(out: &mut String, statement: &SectionCommand) -> Result<(), AllocError> {
     match statement {
         SectionCommand::Section(section) => push_section(out, section.get()),
         SectionCommand::SetLocation(_) => out.push('='),
+        SectionCommand::Assert(assert) => push_marked(out, '!', &assert.message),
+        SectionCommand::Provide(provide) => push_provide(out, provide),
+        SectionCommand::SymbolAssignment(assignment) => push_marked(out, '$', &assignment.name),
     }
 }
 
-// The sections, their matchers and the names in them, or the position of the fault.
+fn push_sections(out: &mut String, sections: &Sections) -> Result<(), AllocError> {
+    for statement in sections.commands.as_slice() {
+        push_statement(out, statement)?;
+    }
+    out.push('.')
+}
+
+fn push_command(out: &mut String, command: &Command) -> Result<(), AllocError> {
+    match command {
+        Command::Sections(sections) => push_sections(out, sections),
+        Command::SymbolDefinition { name, .. } => push_marked(out, '$', name),
+        Command::SetLocation(_) => out.push('='),
+        Command::Provide(provide) => push_provide(out, provide),
+        Command::Assert(assert) => push_marked(out, '!', &assert.message),
+    }
+}
+
+// The commands, their statements, matchers and names, or the position of the fault.
 fn outline(alloc: Global, text: &[u8]) -> Result<String, AllocError> {
     let mut out = String::new(alloc);
     match LinkerScript::parse(alloc, text) {
         Ok(script) => {
             for command in script.commands.as_slice() {
-                let Command::Sections(sections) = command;
-                for statement in sections.commands.as_slice() {
-                    push_statement(&mut out, statement)?;
-                }
-                out.push('.')?;
+                push_command(&mut out, command)?;
             }
             Ok(out)
         }
@@ -56,7 +84,7 @@ fn outline(alloc: Global, text: &[u8]) -> Result<String, AllocError> {
 
 #[test]
 fn outlines(rt: HostRuntime) -> Result<(), Fail> {
-    let cases: [(&[u8], &str); 32] = [
+    let cases: [(&[u8], &str); 24] = [
         (b"", ""),
         (b"/*/", ""),
         (b" # a line\n/* and more */\t\r\n", ""),
@@ -90,6 +118,16 @@ fn outlines(rt: HostRuntime) -> Result<(), Fail> {
         (b"SECTIONS { .a : { *(.t*) } }", "syntax 23"),
         (b"SECTIONS { .a : { *(SORTED) } }", "syntax 26"),
         (b"SECTIONS { .a : { f.o(.a) } }", "syntax 21"),
+    ];
+    for (text, expected) in cases {
+        assert_eq!(rt; outline(rt.alloc(), text)?.as_str(), expected, "{text:?}");
+    }
+    Ok(())
+}
+
+#[test]
+fn statements(rt: HostRuntime) -> Result<(), Fail> {
+    let cases: [(&[u8], &str); 22] = [
         (b"SECTIONS { . = 1 ; .a : { } . = 2 + . ; }", "=.a:;=."),
         (b"SECTIONS { . = 1 /* c */; }", "syntax 18"),
         (
@@ -100,7 +138,24 @@ fn outlines(rt: HostRuntime) -> Result<(), Fail> {
         (b"SECTIONS { . =/ 1; }", "syntax 13"),
         (b"SECTIONS { . < = 1; }", "syntax 13"),
         (b"SECTIONS { . = 1 }", "syntax 17"),
-        (b"SECTIONS { x = 1; }", "syntax 13"),
+        (b"SECTIONS { x = 1; y += 2; \".\" = 3; }", "$x;$y;=."),
+        (b"SECTIONS { \"\" = 1; }", "$;."),
+        (b"SECTIONS { GROUP = 1; }", "$GROUP;."),
+        (b"SECTIONS { x = 1 }", "syntax 17"),
+        (b"SECTIONS { x 1; }", "syntax 13"),
+        (b"SECTIONS { PROVIDE(x = 1); }", "+x;."),
+        (
+            b"SECTIONS { PROVIDE ( x = 1 ) \"PROVIDE_HIDDEN\"(y = 2); }",
+            "+x;-y;.",
+        ),
+        (b"SECTIONS { PROVIDE(\"\" = 1) ; .a : { } }", "+;.a:;."),
+        (b"SECTIONS { PROVIDE = 1; }", "syntax 19"),
+        (b"SECTIONS { PROVIDE(x 1); }", "syntax 21"),
+        (b"SECTIONS { ASSERT(1, m) }", "!m;."),
+        (b"SECTIONS { \"ASSERT\" ( 1 , \"a b\" ) . = 1; }", "!a b;=."),
+        (b"SECTIONS { ASSERT(1, m); }", "syntax 23"),
+        (b"SECTIONS { ASSERT = 1; }", "syntax 18"),
+        (b"SECTIONS { PROVIDE_HIDDEN : { } }", "syntax 26"),
     ];
     for (text, expected) in cases {
         assert_eq!(rt; outline(rt.alloc(), text)?.as_str(), expected, "{text:?}");
@@ -108,36 +163,89 @@ fn outlines(rt: HostRuntime) -> Result<(), Fail> {
     Ok(())
 }
 
-// The first location of a script as its derived text.
-fn first_location(alloc: Global, text: &[u8]) -> Result<String, AllocError> {
+#[test]
+fn outermost_commands(rt: HostRuntime) -> Result<(), Fail> {
+    let cases: [(&[u8], &str); 24] = [
+        (b"x = 1;", "$x;"),
+        (b"x = 1", "$x;"),
+        (b"x = 1 y = 2", "$x;$y;"),
+        (b"x += 1 ; SECTIONS { } y -= 2", "$x;.$y;"),
+        (b". = 5", "="),
+        (b"\".\" = 5;", "="),
+        (b"\"\" = 1;", "$;"),
+        (b"x = 1;;", "syntax 6"),
+        (b"x =", "syntax 3"),
+        (b"PROVIDE(x = 1);", "+x;"),
+        (b"PROVIDE_HIDDEN ( x = 1 )", "-x;"),
+        (b"\"PROVIDE\"(\"x y\" = 1) x = 2", "+x y;$x;"),
+        (b"PROVIDE(x += 1);", "syntax 10"),
+        (b"PROVIDE(x = 1;", "syntax 13"),
+        (b"ASSERT(1, \"m\")", "!m;"),
+        (b"ASSERT(1, m); ASSERT(2, n)", "!m;!n;"),
+        (b"ASSERT(1)", "syntax 8"),
+        (b"GROUP = 5", "syntax 6"),
+        (b"\"ENTRY\" = 5", "syntax 8"),
+        (b"MEMORY { }", "syntax 7"),
+        (b"SECTIONS = 5", "syntax 9"),
+        (b"a", "syntax 1"),
+        (b"a b", "syntax 2"),
+        (b"x == 1", "syntax 2"),
+    ];
+    for (text, expected) in cases {
+        assert_eq!(rt; outline(rt.alloc(), text)?.as_str(), expected, "{text:?}");
+    }
+    Ok(())
+}
+
+// The first command of a script, or the first statement of its SECTIONS, as its derived text.
+fn first_command(alloc: Global, text: &[u8]) -> Result<String, AllocError> {
     let Ok(script) = LinkerScript::parse(alloc, text) else {
         return String::from_str(alloc, "none");
     };
-    for command in script.commands.as_slice() {
-        let Command::Sections(sections) = command;
-        for statement in sections.commands.as_slice() {
-            if let SectionCommand::SetLocation(location) = statement {
-                return format!(in alloc; "{location:?}");
-            }
+    match script.commands.as_slice().first() {
+        Some(Command::Sections(sections)) => {
+            let first = sections.commands.as_slice().first();
+            format!(in alloc; "{first:?}")
         }
+        first => format!(in alloc; "{first:?}"),
     }
-    String::from_str(alloc, "none")
 }
 
 #[test]
-fn locations(rt: HostRuntime) -> Result<(), Fail> {
-    let cases: [(&[u8], &str); 2] = [
+fn values(rt: HostRuntime) -> Result<(), Fail> {
+    let cases: [(&[u8], &str); 8] = [
         (
             b"SECTIONS { . = 4K; }",
-            "Location { address: Number(4096) }",
+            "Some(SetLocation(Location { address: Number(4096) }))",
         ),
         (
             b"SECTIONS { . <<= 2 + 3; }",
-            "Location { address: LeftShift(Boxed { inner: LocationCounter }, Boxed { inner: Add(Boxed { inner: Number(2) }, Boxed { inner: Number(3) }) }) }",
+            "Some(SetLocation(Location { address: LeftShift(Boxed { inner: LocationCounter }, Boxed { inner: Add(Boxed { inner: Number(2) }, Boxed { inner: Number(3) }) }) }))",
         ),
+        (
+            b"SECTIONS { x |= 7; }",
+            "Some(SymbolAssignment(SymbolAssignment { name: Name { bytes: [120] }, expr: BitwiseOr(Boxed { inner: Symbol(Name { bytes: [120] }) }, Boxed { inner: Number(7) }) }))",
+        ),
+        (
+            b"x = 7",
+            "Some(SymbolDefinition { name: Name { bytes: [120] }, value: Number(7) })",
+        ),
+        (
+            b". -= 7",
+            "Some(SetLocation(Location { address: Subtract(Boxed { inner: LocationCounter }, Boxed { inner: Number(7) }) }))",
+        ),
+        (
+            b"PROVIDE(x = 7)",
+            "Some(Provide(ProvideSymbolDefinition { name: Name { bytes: [120] }, value: Number(7), hidden: false }))",
+        ),
+        (
+            b"ASSERT(7, m)",
+            "Some(Assert(AssertCommand { expression: Boxed { inner: Number(7) }, message: Name { bytes: [109] }, at: 6 }))",
+        ),
+        (b"SECTIONS { }", "None"),
     ];
     for (text, expected) in cases {
-        assert_eq!(rt; first_location(rt.alloc(), text)?.as_str(), expected);
+        assert_eq!(rt; first_command(rt.alloc(), text)?.as_str(), expected);
     }
     Ok(())
 }

@@ -15,10 +15,7 @@ pub struct LinkerScript {
 pub enum Command {
     Sections(Sections),
     /// `x = e`, or another operator
-    SymbolDefinition {
-        name: Name,
-        value: Expression,
-    },
+    SymbolDefinition { name: Name, value: Expression },
     /// `. = e`, or another operator
     SetLocation(Location),
     Provide(ProvideSymbolDefinition),

@@ -1,7 +1,7 @@
 use Rattle.wild_reading.specs.Place.{ahead}
 use Rattle.wild_reading.specs.Bytes.{is_end}
 use Rattle.wild_reading.proofs.Readers.{Continues}
-use Rattle.wild_script.specs.Tree.{command}
+use Rattle.wild_script.specs.Outermost.{command}
 use Rattle.wild_script.proofs.script.commands.Given as goal
 
 abbrev pub invariant-commands : goal.invariant-commands

@@ -1,0 +1,35 @@
+//! Reads symbols that are defined where nothing else defines them.
+
+ghost use Rattle.std.specs.Prelude.{◌<◌, OnOk};
+ghost use Rattle.wild_reading.specs.Only.{Answers};
+ghost use Rattle.wild_reading.specs.Place.{ahead};
+ghost use Rattle.wild_script.specs.Provide as spec;
+
+use crate::tree::ProvideSymbolDefinition;
+use std::alloc::Global;
+use wild_expression::expression;
+use wild_reading::{Cursor, Stop};
+
+/// Reads what stands behind PROVIDE or PROVIDE_HIDDEN.
+#[tactic(auto, using(wild_reading::proofs::Readers::reading), unfolding(crate::specs::Provide::provided))]
+pub fn provided(
+    cursor: &mut Cursor<'_>,
+    alloc: Global,
+    hidden: bool,
+) -> Result<ProvideSymbolDefinition, Stop>
+    ensures read { Answers (spec.provided hidden) cursor.old cursor.new result }
+    ensures shorter { OnOk result (ahead cursor.new < ahead cursor.old) }
+{
+    cursor.symbol(b'(')?;
+    let name = cursor.name(alloc)?;
+    cursor.symbol(b'=')?;
+    let value = expression(cursor, alloc)?;
+    cursor.gap()?;
+    cursor.symbol(b')')?;
+    cursor.optional_symbol(b';')?;
+    Ok(ProvideSymbolDefinition {
+        name,
+        value: value.into_inner(),
+        hidden,
+    })
+}
