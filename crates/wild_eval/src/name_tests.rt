@@ -147,47 +147,6 @@ fn number_names(alloc: Global, names: &[&Name]) -> Result<Numbering, NoMemory> {
     Ok(numbers)
 }
 
-// `five` is `- - 5`, `a` is `b`, `b` is `a`; `row` and `low` are symbols of rows.
-fn ask(
-    alloc: Global,
-    index: usize,
-    question: Question,
-    point: Point,
-) -> Result<Result<u64, u32>, NoMemory> {
-    let section = Name::new(alloc, b".a")?;
-    let (five, a, b) = (
-        Name::new(alloc, b"five")?,
-        Name::new(alloc, b"a")?,
-        Name::new(alloc, b"b")?,
-    );
-    let (row, low) = (Name::new(alloc, b"row")?, Name::new(alloc, b"low")?);
-    let number = negated(alloc, negated(alloc, number(alloc, 5)?)?)?;
-    let (to_a, to_b) = (symbol(alloc, b"a")?, symbol(alloc, b"b")?);
-    let entries = [
-        script_entry(&five, number.get()),
-        script_entry(&a, to_b.get()),
-        script_entry(&b, to_a.get()),
-        row_entry(&row, 3),
-        row_entry(&low, 4),
-    ];
-    let table = learn(alloc)?;
-    let names = Names {
-        sections: &[&section],
-        section_numbers: &number_names(alloc, &[&section])?,
-        alignments: &[USIZE],
-        symbols: &number_names(alloc, &[&five, &a, &b, &row, &low])?,
-        entries: &entries,
-        script: b"a\nb\n(",
-    };
-    let reader = Reader {
-        alloc,
-        names: &names,
-        table: &table,
-        statement: 7,
-    };
-    answer(alloc, &reader, index, question, point)
-}
-
 fn script_entry<'a>(name: &'a Name, value: &'a Expression) -> Entry<'a> {
     Entry {
         name,
@@ -207,6 +166,70 @@ fn row_entry<'a>(name: &'a Name, row: usize) -> Entry<'a> {
             section: 0,
         },
     }
+}
+
+// The names and trees of a script.
+#[derive(Drop)]
+struct Script {
+    section: Name,
+    five: Name,
+    a: Name,
+    b: Name,
+    row: Name,
+    low: Name,
+    value: Tree,
+    to_a: Tree,
+    to_b: Tree,
+}
+
+fn make_script(alloc: Global) -> Result<Script, NoMemory> {
+    let minus_five = negated(alloc, number(alloc, 5)?)?;
+    Ok(Script {
+        section: Name::new(alloc, b".a")?,
+        five: Name::new(alloc, b"five")?,
+        a: Name::new(alloc, b"a")?,
+        b: Name::new(alloc, b"b")?,
+        row: Name::new(alloc, b"row")?,
+        low: Name::new(alloc, b"low")?,
+        value: negated(alloc, minus_five)?,
+        to_a: symbol(alloc, b"a")?,
+        to_b: symbol(alloc, b"b")?,
+    })
+}
+
+// `five` is `- - 5`, `a` is `b`, `b` is `a`; `row` and `low` are symbols of rows.
+fn ask(
+    alloc: Global,
+    index: usize,
+    question: Question,
+    point: Point,
+) -> Result<Result<u64, u32>, NoMemory> {
+    let script = make_script(alloc)?;
+    let table = learn(alloc)?;
+    let section = &script.section;
+    let symbols = [&script.five, &script.a, &script.b, &script.row, &script.low];
+    let entries = [
+        script_entry(&script.five, script.value.get()),
+        script_entry(&script.a, script.to_b.get()),
+        script_entry(&script.b, script.to_a.get()),
+        row_entry(&script.row, 3),
+        row_entry(&script.low, 4),
+    ];
+    let names = Names {
+        sections: &[section],
+        section_numbers: &number_names(alloc, &[section])?,
+        alignments: &[USIZE],
+        symbols: &number_names(alloc, &symbols)?,
+        entries: &entries,
+        script: b"a\nb\n(",
+    };
+    let reader = Reader {
+        alloc,
+        names: &names,
+        table: &table,
+        statement: 7,
+    };
+    answer(alloc, &reader, index, question, point)
 }
 
 #[test]
@@ -254,7 +277,11 @@ fn heights(rt: HostRuntime) -> Result<(), Fail> {
         (14, 4, Err(29)),
     ] {
         let question = Question::Height(levels);
-        assert_eq!(rt; ask(rt.alloc(), i, question, OUTSIDE)?, wanted, "{i} {levels}");
+        assert_eq!(rt;
+            ask(rt.alloc(), i, question, OUTSIDE)?,
+            wanted,
+            "{i} {levels}"
+        );
     }
     Ok(())
 }

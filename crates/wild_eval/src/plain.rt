@@ -88,12 +88,18 @@ impl Reader<'_> {
     }
 
     #[cycle(evaluation)]
-    fn node(&self, levels: usize, path: &Path<'_>, expression: &Expression, point: Point) -> Result<Value, Fault>
+    fn node(
+        &self,
+        levels: usize,
+        path: &Path<'_>,
+        tree: &Expression,
+        point: Point,
+    ) -> Result<Value, Fault>
         requires { levels < 1024 }
-        ensures value { Returns result (spec.node self.now levels (path_of path.now) expression.now point) }
+        ensures value { Returns result (spec.node self.now levels (path_of path.now) tree.now point) }
         ensures height { IfOk result (λ v. v.height ≤ levels + 1) }
     {
-        match expression {
+        match tree {
             Expression::Number(number) => Ok(unmarked(*number)),
             Expression::LocationCounter => self.counter(point),
             Expression::Add(a, b)
@@ -106,10 +112,10 @@ impl Reader<'_> {
             | Expression::RightShift(a, b)
             | Expression::Min(a, b)
             | Expression::Max(a, b) => {
-                self.calculated(levels, path, arithmetic(expression), a.get(), b.get(), point)
+                self.calculated(levels, path, arithmetic(tree), a.get(), b.get(), point)
             }
             Expression::Divide(a, b) | Expression::Modulo(a, b) => {
-                self.divided(levels, path, division(expression), a.get(), b.get(), point)
+                self.divided(levels, path, division(tree), a.get(), b.get(), point)
             }
             Expression::LessEqual(a, b)
             | Expression::GreaterEqual(a, b)
@@ -117,13 +123,13 @@ impl Reader<'_> {
             | Expression::NotEqual(a, b)
             | Expression::LessThan(a, b)
             | Expression::GreaterThan(a, b) => {
-                self.compared(levels, path, comparison(expression), a.get(), b.get(), point)
+                self.compared(levels, path, comparison(tree), a.get(), b.get(), point)
             }
             Expression::LogicalAnd(a, b) | Expression::LogicalOr(a, b) => {
-                self.connected(levels, path, connective(expression), a.get(), b.get(), point)
+                self.connected(levels, path, connective(tree), a.get(), b.get(), point)
             }
             Expression::LogicalNot(a) | Expression::BitwiseNot(a) | Expression::Negate(a) => {
-                self.turned(levels, path, unary(expression), a.get(), point)
+                self.turned(levels, path, unary(tree), a.get(), point)
             }
             Expression::Ternary(condition, a, b) => {
                 self.choice(levels, path, condition.get(), a.get(), b.get(), point)
@@ -405,10 +411,10 @@ impl Reader<'_> {
         ensures value { Returns result (spec.asserted self.now levels (path_of path.now) command.now point) }
         ensures height { IfOk result (λ v. v.height ≤ levels + 1) }
     {
-        let x = self.value(levels, path, command.expression.get(), point)?;
-        if x.number == 0 {
+        let condition = self.value(levels, path, command.expression.get(), point)?;
+        if condition.number == 0 {
             return self.failed(command);
         }
-        Ok(over(x.number, x))
+        Ok(over(condition.number, condition))
     }
 }
