@@ -1,8 +1,7 @@
 //! What is checked before a script and its rows are laid out.
 
-ghost use Rattle.std.specs.Prelude.{◌≡◌, [], ◌∷◌, ◌++◌, None, Some, OnOk, IfOk, IfErr, not};
+ghost use Rattle.std.specs.Prelude.{◌≡◌, [], ◌∷◌, ◌++◌, None, Some, OnOk, IfOk, IfErr, not, slice_get};
 ghost use Rattle.std.specs.List.{list_any};
-ghost use Rattle.std.specs.Option.{option_copied};
 ghost use Rattle.wild_base.specs.Numbering.{is_named};
 ghost use Rattle.wild_base.specs.declared.fault.Fault.TheVariants.{DuplicateSection, DuplicateSymbol};
 ghost use Rattle.wild_plan_spec.specs.Rules.{chunk_of};
@@ -38,12 +37,12 @@ pub fn check_rows(rows: &[InputRow]) -> Result<(), Fault>
     Ok(())
 }
 
-// Whether there is a row, and the offset is not above its size.
-fn holds_offset(row: Option<&InputRow>, offset: u64) -> bool
-    ensures { result ≡ holds_offset (option_copied row.entry) offset }
+// Whether the row of a symbol is there, and its offset is not above the size of the row.
+fn is_in_row(rows: &[InputRow], symbol: &SymbolRow) -> bool
+    ensures { result ≡ holds_offset (slice_get rows.now symbol.now.row) symbol.now.offset }
 {
-    match row {
-        Some(row) => offset <= row.size,
+    match rows.get(symbol.row) {
+        Some(row) => symbol.offset <= row.size,
         None => false,
     }
 }
@@ -53,7 +52,7 @@ pub fn check_symbols(rows: &[InputRow], symbols: &[SymbolRow]) -> Result<(), Fau
     ensures { Passes (failing (symbol_checks rows.now 0 symbols.now)) result }
 {
     for (number, symbol) in symbols.iter().enumerate() {
-        if !holds_offset(rows.get(symbol.row), symbol.offset) {
+        if !is_in_row(rows, symbol) {
             return Err(Fault::BadSymbolRow {
                 symbol: number as u64,
             });

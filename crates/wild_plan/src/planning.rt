@@ -198,7 +198,7 @@ fn list_all(
     checked: &Checked<'_>,
     ended: Ended,
 ) -> Result<Lists, NoMemory>
-    ensures { IfOk result (IsListed inputs.now checked.now ended.entry) }
+    ensures { IfOk result (IsListed inputs.now checked.now ended) }
 {
     let Ended {
         traits,
