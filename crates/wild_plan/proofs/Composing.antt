@@ -1,6 +1,6 @@
 -- What the parts of a plan answer makes what the whole answers.
-use Rattle.std.proofs.Common.{◌≡◌, ◌∙◌, ◌++◌, ℕ, List, [], length, None, Ok, Err, refl, sym, ap, subst, inl, inr, ⊎_elim}
-use Rattle.std.proofs.Math.Path.{fun_ext}
+use Rattle.std.proofs.Common.{◌≡◌, ◌∙◌, ◌++◌, ℕ, List, [], ◌∷◌, length, None, Ok, Err, refl, sym, ap, subst, inl, inr, ⊎_elim}
+use denote.Ref.{Bor}
 use Rattle.std.specs.List.{filter}
 use Rattle.wild_base.specs.declared.fault.Fault.{Fault}
 use Rattle.wild_base.specs.declared.fault.Fault.TheVariants.{Syntax, UnclosedComment, UnsupportedNestedSort, TooDeep, DuplicateSection, DuplicateSymbol}
@@ -9,8 +9,7 @@ use Rattle.wild_script.specs.declared.tree.LinkerScript.{LinkerScript}
 use Rattle.wild_script.specs.declared.tree.Section.{Section}
 use Rattle.wild_value_spec.specs.Known.{Known}
 use Rattle.wild_value_spec.specs.Setting.{Setting}
-use Rattle.wild_eval.specs.declared.names.Names.{Names}
-use Rattle.wild_eval.specs.Setting as named
+use Rattle.wild_eval.specs.declared.names.Entry as borrowed
 use Rattle.wild_eval.specs.Table.{known_of}
 use Rattle.wild_plan_spec.specs.declared.chunk.Chunk.{Chunk}
 use Rattle.wild_plan_spec.specs.declared.chunk.ChunkRow.{ChunkRow}
@@ -21,7 +20,8 @@ use Rattle.wild_plan_spec.specs.Statements.{sections_of}
 use Rattle.wild_plan_spec.specs.Rules.{Rule, rules_of}
 use Rattle.wild_plan_spec.specs.Chunks.{is_of, section_rows, largest_alignment}
 use Rattle.wild_plan_spec.specs.Checks.{place_checks, name_checks, support_checks, checks, failing}
-use Rattle.wild_plan_spec.specs.Definitions.{Entry, entry_names, firm_entries}
+use Rattle.wild_plan_spec.specs.Definitions.{Entry, entry_names, firm_entries, provided_entries, all_entries}
+use Rattle.wild_plan_spec.specs.Names.{Name}
 use Rattle.wild_plan_spec.specs.Order.{IsOrdered, stands_before}
 use Rattle.wild_plan_spec.specs.Settings.{names_of, alignments_of, setting_of}
 use Rattle.wild_plan_spec.specs.Places.{Place, places_of}
@@ -46,9 +46,13 @@ use Rattle.wild_plan.specs.Shown.{shown}
 use Rattle.wild_plan.specs.Traits.{traits_of}
 use Rattle.wild_plan.specs.With.{AreChunks, kept_with, section_rows_with, placed_with}
 use Rattle.wild_plan.proofs.Failing.{of_table, of_symbols, places_fail, sections_fail, symbols_fail, support_fails, all_hold}
-use Rattle.wild_plan.proofs.Settings.{settings_same}
+use Rattle.wild_plan.proofs.Settings.{kept, settings_same}
 use Rattle.wild_plan.proofs.Listed.{sections_same, alignments_same}
 use Rattle.wild_plan.proofs.WithRules.{section_rows_by_rules, kept_by_rules, placed_by_rules}
+
+entry_names_append : (xs ys : List Entry) → entry_names (xs ++ ys) ≡ entry_names xs ++ entry_names ys
+entry_names_append [] ys = refl
+entry_names_append (x ∷ xs) ys = ap (λ (ns : List Name). x.name ∷ ns) (entry_names_append xs ys)
 
 -- ---- checks
 
@@ -71,6 +75,12 @@ module _ (t : LinkerScript) (inputs : InputTable) (ps : List Place) (in_places :
         pub support_refused : (f : Fault) → IsWanted (failing (support_checks rules 0 inputs.rows)) f → IsWanted (failing (checks t inputs)) f
         support_refused f h = support_fails t inputs a (rw in_places at b) (rw in_sections at c) (rw all_entries_same at d) f (rw in_rules at h)
 
+        pub entries_complete : (next : List Entry) → next ≡ es ++ provided_entries 0 ps → next ≡ all_entries (rules_of t) inputs.rows inputs.symbols (places_of t)
+        entries_complete next e = e ∙ rw (all_entries_same, in_places) refl
+
+        pub names_complete : (names next : List Name) → names ≡ entry_names es → next ≡ names ++ entry_names (provided_entries 0 ps) → next ≡ entry_names (all_entries (rules_of t) inputs.rows inputs.symbols (places_of t))
+        names_complete names next e f = f ∙ ap (λ (xs : List Name). xs ++ entry_names (provided_entries 0 ps)) e ∙ sym (entry_names_append es (provided_entries 0 ps)) ∙ ap entry_names (entries_complete (es ++ provided_entries 0 ps) refl)
+
         pub checks_hold : failing (support_checks rules 0 inputs.rows) ≡ None → failing (checks t inputs) ≡ None
         checks_hold e = all_hold t inputs a (rw in_places at b) (rw in_sections at c) (rw all_entries_same at d) (rw in_rules at e)
 
@@ -84,47 +94,47 @@ module _ (script : Bytes) (t : LinkerScript) (inputs : InputTable) (checked : Ch
   pub ordered_rows : (order : Chunk → List ChunkRow) → ((q : Chunk) → IsOrdered stands_before (filter (is_of q) (kept_with 0 inputs.rows checked.chunks)) (order q)) → AreOrdered script t inputs order
   ordered_rows order h = λ q. subst (λ (ks : List ChunkRow). IsOrdered stands_before (filter (is_of q) ks) (order q)) (kept_by_rules (rules_of t) 0 inputs.rows checked.chunks c.chunks) (h q)
 
-  module _ (names : Names) (traits : ℕ → Traits) (of_traits : (s : ℕ) → traits s ≡ traits_of (section_rows_with s inputs.rows checked.chunks))
-      (in_names : pointed names.sections.now ≡ names_of (pointed checked.parts.sections)) (in_numbers : names.section_numbers.now ≡ checked.section_names)
-      (in_alignments : names.alignments.now ≡ alignments_by traits 0 (pointed checked.parts.sections)) (in_symbols : names.symbols.now ≡ checked.symbols)
-      (in_entries : names.entries.now ≡ checked.entries) (in_script : names.script.now ≡ script) where
-    pub setting_same : named.setting_of names ≡ setting_of script t inputs
-    setting_same = settings_same names script t inputs
+  module _ (names : List (Bor Name)) (alignments : List ℕ) (entries : List borrowed.Entry) (traits : ℕ → Traits) (of_traits : (s : ℕ) → traits s ≡ traits_of (section_rows_with s inputs.rows checked.chunks))
+      (in_names : pointed names ≡ names_of (pointed checked.parts.sections)) (in_alignments : alignments ≡ alignments_by traits 0 (pointed checked.parts.sections)) (in_entries : entries ≡ checked.entries) where
+    abbrev said : Setting
+    said = kept names checked.section_names alignments checked.symbols entries script
+
+    setting_same : said ≡ setting_of script t inputs
+    setting_same = settings_same names checked.section_names alignments checked.symbols entries script t inputs
         (in_names ∙ ap names_of c.parts.sections)
-        (in_numbers ∙ c.section_names)
+        c.section_names
         (in_alignments ∙ alignments_same (rules_of t) inputs.rows traits (traits_rules traits of_traits) 0 (pointed checked.parts.sections) ∙ ap (alignments_of (rules_of t) inputs.rows 0) c.parts.sections)
-        (in_symbols ∙ c.symbols)
+        c.symbols
         (ap shown_entries in_entries ∙ c.entries)
-        in_script
 
     module _ (order : Chunk → List ChunkRow) (ordered : (q : Chunk) → IsOrdered stands_before (filter (is_of q) (kept_with 0 inputs.rows checked.chunks)) (order q)) (places : List Place) (in_places : places ≡ shown checked.parts.places) where
       places_same : places ≡ places_of t
       places_same = in_places ∙ c.parts.places
 
-      pub refused : (fault : Fault) → Refuses (named.setting_of names) order places fault → LayoutFault script t inputs fault
+      pub refused : (fault : Fault) → Refuses said order places fault → LayoutFault script t inputs fault
       refused fault h = record {
         sound = c.sound;
         order = order;
         ordered = ordered_rows order ordered;
-        refuses = subst (λ (s : Setting). Refuses s order (places_of t) fault) setting_same (subst (λ (ps : List Place). Refuses (named.setting_of names) order ps fault) places_same h);
+        refuses = subst (λ (s : Setting). Refuses s order (places_of t) fault) setting_same (subst (λ (ps : List Place). Refuses said order ps fault) places_same h);
       }
 
-      module _ (state : State) (stands : Stands (named.setting_of names) order places (length places) state) where
+      module _ (state : State) (stands : Stands said order places (length places) state) where
         pub laid : IsLaid script t inputs state
         laid = record {
           sound = c.sound;
           order = order;
           ordered = ordered_rows order ordered;
-          stands = subst (λ (s : Setting). Stands s order (places_of t) (length (places_of t)) state) setting_same (subst (λ (ps : List Place). Stands (named.setting_of names) order ps (length ps) state) places_same stands);
+          stands = subst (λ (s : Setting). Stands s order (places_of t) (length (places_of t)) state) setting_same (subst (λ (ps : List Place). Stands said order ps (length ps) state) places_same stands);
         }
 
-        finished_same : finished (named.setting_of names) state.known places ≡ finished (setting_of script t inputs) state.known (places_of t)
-        finished_same = ap (λ (ps : List Place). finished (named.setting_of names) state.known ps) places_same ∙ ap (λ (s : Setting). finished s state.known (places_of t)) setting_same
+        finished_same : finished said state.known places ≡ finished (setting_of script t inputs) state.known (places_of t)
+        finished_same = ap (λ (ps : List Place). finished said state.known ps) places_same ∙ ap (λ (s : Setting). finished s state.known (places_of t)) setting_same
 
-        pub end_refused : (fault : Fault) → finished (named.setting_of names) state.known places ≡ Err fault → EndFault script t inputs fault
+        pub end_refused : (fault : Fault) → finished said state.known places ≡ Err fault → EndFault script t inputs fault
         end_refused fault h = record { state = state; laid = laid; refused = sym finished_same ∙ h }
 
-        pub finishes : (found : List PlacedSymbol) → finished (named.setting_of names) state.known places ≡ Ok found → finished (setting_of script t inputs) state.known (places_of t) ≡ Ok found
+        pub finishes : (found : List PlacedSymbol) → finished said state.known places ≡ Ok found → finished (setting_of script t inputs) state.known (places_of t) ≡ Ok found
         finishes found h = sym finished_same ∙ h
 
   -- ---- lists

@@ -1,10 +1,9 @@
 -- Lists of entries as they are kept.
-use Rattle.std.proofs.Common.{◌≡◌, ◌++◌, ℕ, zero, suc, List, [], ◌∷◌, refl, ap, sym, cc}
-use Rattle.std.specs.Prelude.{slice_get, Option}
-use Rattle.std.specs.Option.{option_map}
+use Rattle.std.proofs.Common.{◌≡◌, ◌++◌, List, [], ◌∷◌, refl, ap}
 use Rattle.wild_eval.specs.declared.names.Entry.{Entry}
 use Rattle.wild_value_spec.specs.Setting.{Definition}
 use Rattle.wild_plan_spec.specs.Definitions as spec
+use Rattle.wild_plan_spec.specs.Names.{Name}
 use Rattle.wild_plan.specs.Entries.{shown_entry, shown_entries}
 
 pub entries_append : (xs ys : List Entry) → shown_entries (xs ++ ys) ≡ shown_entries xs ++ shown_entries ys
@@ -12,7 +11,7 @@ entries_append [] ys = refl
 entries_append (x ∷ xs) ys = ap (λ zs. shown_entry x ∷ zs) (entries_append xs ys)
 
 -- a name that is not empty has an entry
-pub named : (name : spec.Name) (d : Definition) → (name ≡ [] → ⊥) → spec.entry_of name d ≡ record { name = name; definition = d } ∷ []
+pub named : (name : Name) (d : Definition) → (name ≡ [] → ⊥) → spec.entry_of name d ≡ record { name = name; definition = d } ∷ []
 named [] d h = absurd (h refl)
 named (b ∷ bs) d h = refl
 

@@ -9,7 +9,6 @@ use Rattle.wild_script.specs.Tree.{Bytes}
 use Rattle.wild_script.specs.declared.tree.LinkerScript.{LinkerScript}
 use Rattle.wild_value_spec.specs.Setting.{Definition, Setting, line_of}
 use Rattle.wild_eval.specs.declared.names.Entry.{Entry}
-use Rattle.wild_eval.specs.declared.names.Names.{Names}
 use Rattle.wild_eval.specs.Setting as named
 use Rattle.wild_plan_spec.specs.declared.row.InputTable.{InputTable}
 use Rattle.wild_plan_spec.specs.Definitions as spec
@@ -44,15 +43,25 @@ made_same p q r u v = rw (p, q, r, u, v) refl
 abbrev all_of : LinkerScript → InputTable → List spec.Entry
 all_of t inputs = spec.all_entries (rules_of t) inputs.rows inputs.symbols (places_of t)
 
-pub settings_same : (names : Names) (script : Bytes) (t : LinkerScript) (inputs : InputTable) → pointed names.sections.now ≡ names_of (sections_of t) → names.section_numbers.now ≡ names_of (sections_of t)
-    → names.alignments.now ≡ alignments_of (rules_of t) inputs.rows 0 (sections_of t) → names.symbols.now ≡ spec.entry_names (all_of t inputs) → shown_entries names.entries.now ≡ all_of t inputs → names.script.now ≡ script
-    → named.setting_of names ≡ setting_of script t inputs
+-- what is said by lists of names, alignments and entries as they are kept
+abbrev pub kept : List (Bor Name) → List Name → List ℕ → List Name → List Entry → Bytes → Setting
+kept sections numbers alignments symbols entries script = record {
+  section_name = λ s. named.or_empty (slice_get sections s);
+  «section» = λ x. number_of x numbers;
+  alignment = λ s. unwrap_or (slice_get alignments s) 0;
+  definition = λ x. named.defined_at (number_of x symbols) entries;
+  line = λ i. line_of script i;
+}
+
+pub settings_same : (sections : List (Bor Name)) (numbers : List Name) (alignments : List ℕ) (symbols : List Name) (entries : List Entry) (script : Bytes) (t : LinkerScript) (inputs : InputTable)
+    → pointed sections ≡ names_of (sections_of t) → numbers ≡ names_of (sections_of t) → alignments ≡ alignments_of (rules_of t) inputs.rows 0 (sections_of t)
+    → symbols ≡ spec.entry_names (all_of t inputs) → shown_entries entries ≡ all_of t inputs → kept sections numbers alignments symbols entries script ≡ setting_of script t inputs
 unfolding made
-settings_same names script t inputs a b c d e f = made_same
-    (fun_ext (λ s. name_same names.sections.now s) ∙ ap (λ (xs : List Name). λ (s : ℕ). or_empty (slice_get xs s)) a)
+settings_same sections numbers alignments symbols entries script t inputs a b c d e = made_same
+    (fun_ext (λ s. name_same sections s) ∙ ap (λ (xs : List Name). λ (s : ℕ). or_empty (slice_get xs s)) a)
     (ap (λ (xs : List Name). λ (x : Name). number_of x xs) b)
     (ap (λ (xs : List ℕ). λ (s : ℕ). unwrap_or (slice_get xs s) 0) c)
-    (fun_ext (λ x. defined_same (number_of x names.symbols.now) names.entries.now)
-        ∙ ap (λ (xs : List Name). λ (x : Name). spec.numbered_definition (shown_entries names.entries.now) (number_of x xs)) d
+    (fun_ext (λ x. defined_same (number_of x symbols) entries)
+        ∙ ap (λ (xs : List Name). λ (x : Name). spec.numbered_definition (shown_entries entries) (number_of x xs)) d
         ∙ ap (λ (es : List spec.Entry). λ (x : Name). spec.numbered_definition es (number_of x (spec.entry_names (all_of t inputs)))) e)
-    (ap (λ (xs : Bytes). λ (i : ℕ). line_of xs i) f)
+    refl

@@ -1,6 +1,6 @@
 //! From the bytes of a script and a table to a plan.
 
-ghost use Rattle.std.specs.Prelude.{◌≡◌, ◌⊎◌, ◌++◌, [], ◌∷◌, OnOk, IfOk, IfErr, length};
+ghost use Rattle.std.specs.Prelude.{◌≡◌, ◌⊎◌, ◌++◌, [], ◌∷◌, OnOk, IfOk, IfErr, None, length};
 ghost use Rattle.wild_base.specs.declared.fault.Fault.TheVariants as fault;
 ghost use Rattle.wild_script.specs.declared.tree.LinkerScript.{LinkerScript};
 ghost use Rattle.wild_plan_spec.specs.Checks.{row_checks, symbol_checks, checks, failing};
@@ -8,7 +8,7 @@ ghost use Rattle.wild_plan_spec.specs.Fit.{IsThePlan, IsTheFault, Fits, LayoutFa
 ghost use Rattle.wild_plan_spec.specs.Settings.{names_of};
 ghost use Rattle.wild_plan.specs.Composed.{IsParts, IsChecked, IsEnded, IsListed};
 ghost use Rattle.wild_plan.specs.Listed.{alignments_by};
-ghost use Rattle.wild_plan.specs.Passes.{Passes, IsWanted};
+ghost use Rattle.wild_plan.specs.Passes.{IsWanted};
 ghost use Rattle.wild_plan.specs.Pointed.{pointed};
 ghost use Rattle.wild_plan.specs.Traits.{traits_at};
 
@@ -63,7 +63,8 @@ pub struct Ended {
 }
 
 fn check_table(inputs: &InputTable) -> Result<(), Fault>
-    ensures { Passes (failing (row_checks 0 inputs.now.rows ++ symbol_checks inputs.now.rows 0 inputs.now.symbols)) result }
+    ensures ok { IfOk result (λ u. failing (row_checks 0 inputs.now.rows ++ symbol_checks inputs.now.rows 0 inputs.now.symbols) ≡ None) }
+    ensures err { IfErr result (IsWanted (failing (row_checks 0 inputs.now.rows ++ symbol_checks inputs.now.rows 0 inputs.now.symbols))) }
 {
     let rows = inputs.rows.as_slice();
     check_rows(rows)?;
