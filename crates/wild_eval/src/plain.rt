@@ -1,6 +1,6 @@
 //! Values by plain recursion over trees.
 
-ghost use Rattle.std.specs.Prelude.{◌≡◌, ℕ, ◌<◌, ◌≤◌, ◌+◌, IfOk};
+ghost use Rattle.std.specs.Prelude.{◌≡◌, ◌<◌, ◌≤◌, ◌+◌, IfOk};
 ghost use Rattle.wild_eval.specs.Plain as spec;
 ghost use Rattle.wild_eval.specs.Setting.{path_of, setting_of, shown_definition};
 ghost use Rattle.wild_eval.specs.Table.{known_of};
