@@ -176,12 +176,12 @@ location 0 0x0000000000001000
 symbol x 0x0000000000001004 - default
 ";
 
-const NAMED: &[u8] = b"section .a 0x0000000000000010 0x0000000000000010 0x0000000000000004 8 A - - -
+const NAMED: &[u8] = b"section .a 0x0000000000000010 0x0000000000000010 0x0000000000000008 8 A - - -
 input 0 0x0000000000000010 .a f.o .a
 location 0 0x0000000000000010
 symbol t 0x0000000000000012 .a default
 symbol x 0x0000000000000013 - default
-symbol h 0x0000000000000005 - hidden
+symbol h 0x0000000000000009 - hidden
 symbol y 0x0000000000000028 - default
 ";
 
@@ -267,13 +267,21 @@ fn symbol_faults(rt: HostRuntime) -> Result<(), Fail> {
         (b"a = b; b = a;", b"", b"fault 28 SymbolCycle name=a\n"),
         (b"x += 1;", b"", b"fault 28 SymbolCycle name=x\n"),
         (b"x = 1\n-lfoo", b"", b"fault 26 UnknownSymbol name=lfoo\n"),
-        (b"ASSERT(0, \"m\")", b"", b"fault 36 AssertFailed line=1 message=m\n"),
+        (
+            b"ASSERT(0, \"m\")",
+            b"",
+            b"fault 36 AssertFailed line=1 message=m\n",
+        ),
         (
             b"SECTIONS {\nASSERT(1, a)\nASSERT\n(0, b) }",
             b"",
             b"fault 36 AssertFailed line=4 message=b\n",
         ),
-        (b"SECTIONS { .a : { *(.a) } }", row, b"fault 6 BadSymbolRow symbol=0\n"),
+        (
+            b"SECTIONS { .a : { *(.a) } }",
+            row,
+            b"fault 6 BadSymbolRow symbol=0\n",
+        ),
         (b"", b"symbol,x,0,0,,\n", b"fault 6 BadSymbolRow symbol=0\n"),
         (b"x = 1; x = 2;", b"", b"fault 15 DuplicateSymbol name=x\n"),
         (
@@ -281,13 +289,41 @@ fn symbol_faults(rt: HostRuntime) -> Result<(), Fail> {
             b"symbol,x,0,4,,\nsection,f.o,.a,4,1,A\n",
             b"fault 15 DuplicateSymbol name=x\n",
         ),
-        (b"x = ADDR(.none);", b"", b"fault 25 UnknownSection name=.none\n"),
-        (b"SECTIONS { .a : { } } x = SIZEOF_HEADERS;", b"", b"fault 38 Unsupported index=2\n"),
-        (b"ASSERT(1 || ORIGIN(r), m)", b"", b"fault 38 Unsupported index=0\n"),
-        (b"ASSERT(0, m) x = 1 / 0;", b"", b"fault 22 DivisionByZero statement=1\n"),
-        (b"\"\" = ALIGN(0);", b"", b"fault 24 AlignZero statement=0\n"),
-        (b". = 1 % 0; y = 1;", b"", b"fault 23 ModuloByZero statement=0\n"),
-        (b"SECTIONS { PROVIDE(y = y); }", b"", b"fault 28 SymbolCycle name=y\n"),
+        (
+            b"x = ADDR(.none);",
+            b"",
+            b"fault 25 UnknownSection name=.none\n",
+        ),
+        (
+            b"SECTIONS { .a : { } } x = SIZEOF_HEADERS;",
+            b"",
+            b"fault 38 Unsupported index=2\n",
+        ),
+        (
+            b"ASSERT(1 || ORIGIN(r), m)",
+            b"",
+            b"fault 38 Unsupported index=0\n",
+        ),
+        (
+            b"ASSERT(0, m) x = 1 / 0;",
+            b"",
+            b"fault 22 DivisionByZero statement=1\n",
+        ),
+        (
+            b"\"\" = ALIGN(0);",
+            b"",
+            b"fault 24 AlignZero statement=0\n",
+        ),
+        (
+            b". = 1 % 0; y = 1;",
+            b"",
+            b"fault 23 ModuloByZero statement=0\n",
+        ),
+        (
+            b"SECTIONS { PROVIDE(y = y); }",
+            b"",
+            b"fault 28 SymbolCycle name=y\n",
+        ),
     ];
     for (script, table, line) in cases {
         let (answer, out, err) = planned(alloc, script, table)?;

@@ -199,7 +199,11 @@ fn failing_calls(rt: HostRuntime) -> Result<(), Fail> {
 }
 
 // The status of a run over a script and a table, and what it wrote.
-pub(crate) fn planned(alloc: Global, script: &[u8], table: &[u8]) -> Result<(u8, Tray, Tray), NoMemory> {
+pub(crate) fn planned(
+    alloc: Global,
+    script: &[u8],
+    table: &[u8],
+) -> Result<(u8, Tray, Tray), NoMemory> {
     let words = names(alloc, &[b"plan", b"s", b"t"])?;
     let files = two_files(alloc, Name::new(alloc, script)?, table)?;
     let mut files = Shelf::new(files, Vec::new(alloc));

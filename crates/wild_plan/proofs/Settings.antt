@@ -62,6 +62,6 @@ settings_same sections numbers alignments symbols entries script t inputs a b c 
     (ap (λ (xs : List Name). λ (x : Name). number_of x xs) b)
     (ap (λ (xs : List ℕ). λ (s : ℕ). unwrap_or (slice_get xs s) 0) c)
     (fun_ext (λ x. defined_same (number_of x symbols) entries)
-        ∙ ap (λ (xs : List Name). λ (x : Name). spec.numbered_definition (shown_entries entries) (number_of x xs)) d
-        ∙ ap (λ (es : List spec.Entry). λ (x : Name). spec.numbered_definition es (number_of x (spec.entry_names (all_of t inputs)))) e)
+    ∙ ap (λ (xs : List Name). λ (x : Name). spec.numbered_definition (shown_entries entries) (number_of x xs)) d
+    ∙ ap (λ (es : List spec.Entry). λ (x : Name). spec.numbered_definition es (number_of x (spec.entry_names (all_of t inputs)))) e)
     refl

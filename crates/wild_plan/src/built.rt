@@ -44,7 +44,8 @@ pub fn is_built(expression: &Expression, names: bool) -> bool
         Expression::LogicalNot(x) | Expression::BitwiseNot(x) | Expression::Negate(x) => {
             is_built(x.get(), names)
         }
-        Expression::Ternary(x, y, z) => is_built(x.get(), names) && are_built(y.get(), z.get(), names),
+        Expression::Ternary(x, y, z) => is_built(x.get(), names)
+            && are_built(y.get(), z.get(), names),
         Expression::Align(x, None) => is_built(x.get(), names),
         Expression::Align(x, Some(y)) => are_built(x.get(), y.get(), names),
         Expression::Symbol(_)

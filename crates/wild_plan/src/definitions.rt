@@ -129,7 +129,13 @@ fn push_provide<'a>(
     names.push(alloc, &provide.name)?;
     let (value, point) = (&provide.value, point_of(index));
     let definition = Definition::OfScript { value, point };
-    push(entries, Entry { name: &provide.name, definition })
+    push(
+        entries,
+        Entry {
+            name: &provide.name,
+            definition,
+        },
+    )
 }
 
 fn push_provided<'a>(
@@ -170,7 +176,12 @@ pub fn find_entries<'a>(
     ensures { IfOk result (λ entries. shown_entries entries ≡ firm_entries rules.now inputs.now.rows inputs.now.symbols (shown places.now)) }
 {
     let mut entries = Items::new(alloc);
-    push_rows(&mut entries, rules, inputs.rows.as_slice(), inputs.symbols.as_slice())?;
+    push_rows(
+        &mut entries,
+        rules,
+        inputs.rows.as_slice(),
+        inputs.symbols.as_slice(),
+    )?;
     push_all_assigned(&mut entries, places)?;
     Ok(entries)
 }

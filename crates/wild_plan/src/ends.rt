@@ -110,7 +110,12 @@ impl End<'_> {
         ensures { Returns result (spec.provided (setting_of self.now.names.now) (known_of self.now.table.now) place definition.now) }
     {
         if is_at(place, self.names.definition(&definition.name)) {
-            self.placed(place, &definition.name, &definition.value, definition.hidden)
+            self.placed(
+                place,
+                &definition.name,
+                &definition.value,
+                definition.hidden,
+            )
         } else {
             Ok(None)
         }

@@ -151,7 +151,13 @@ pub fn placed_symbols(
     let rows = inputs.rows.as_slice();
     let mut symbols = Items::new(alloc);
     for symbol in inputs.symbols.as_slice() {
-        push_symbol(alloc, &mut symbols, table, symbol, symbol_chunk(rules, rows, symbol))?;
+        push_symbol(
+            alloc,
+            &mut symbols,
+            table,
+            symbol,
+            symbol_chunk(rules, rows, symbol),
+        )?;
     }
     Ok(symbols)
 }

@@ -20,10 +20,7 @@ pub enum Statement<'a> {
 }
 
 #[tactic(auto, using(crate::proofs::Shown::statements_append))]
-fn push<'a>(
-    statements: &mut Items<Statement<'a>>,
-    statement: Statement<'a>,
-) -> Result<(), NoMemory>
+fn push<'a>(statements: &mut Items<Statement<'a>>, statement: Statement<'a>) -> Result<(), NoMemory>
     ensures { OnOk result (shown_statements statements.new ≡ shown_statements statements.old ++ shown_statement statement.entry ∷ []) }
 {
     statements.push(statement)?;

@@ -10,7 +10,5 @@ mod row;
 pub use chunk::{Chunk, ChunkRow};
 pub use laws::{one_fault, one_plan_fits, plan_or_fault, rows_have_one_order};
 pub use options::PlanOptions;
-pub use placed::{
-    Names, PlacedInput, PlacedLocation, PlacedSection, PlacedSymbol, RowNames,
-};
+pub use placed::{Names, PlacedInput, PlacedLocation, PlacedSection, PlacedSymbol, RowNames};
 pub use row::{InputRow, InputRows, InputTable, SymbolRow, SymbolRows};

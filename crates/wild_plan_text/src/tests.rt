@@ -57,7 +57,14 @@ fn lines(alloc: Global) -> Result<Name, NoMemory> {
         symbol(alloc, b"x", 4, Some(0), false)?,
         symbol(alloc, b"", 0x10, None, true)?,
     ];
-    lines_text(alloc, &[section], &[placed], &[names], &[location], &symbols)
+    lines_text(
+        alloc,
+        &[section],
+        &[placed],
+        &[names],
+        &[location],
+        &symbols,
+    )
 }
 
 #[test]
