@@ -14,11 +14,10 @@ use Rattle.wild_eval.specs.Table.{known_of}
 use Rattle.wild_plan_spec.specs.declared.chunk.Chunk.{Chunk}
 use Rattle.wild_plan_spec.specs.declared.chunk.ChunkRow.{ChunkRow}
 use Rattle.wild_plan_spec.specs.declared.placed.PlacedSymbol.{PlacedSymbol}
-use Rattle.wild_plan_spec.specs.declared.row.InputRow.{InputRow}
 use Rattle.wild_plan_spec.specs.declared.row.InputTable.{InputTable}
 use Rattle.wild_plan_spec.specs.Statements.{sections_of}
 use Rattle.wild_plan_spec.specs.Rules.{Rule, rules_of}
-use Rattle.wild_plan_spec.specs.Chunks.{is_of, section_rows, largest_alignment}
+use Rattle.wild_plan_spec.specs.Chunks.{is_of, section_rows}
 use Rattle.wild_plan_spec.specs.Checks.{place_checks, name_checks, support_checks, checks, failing}
 use Rattle.wild_plan_spec.specs.Definitions.{Entry, entry_names, firm_entries, provided_entries, all_entries}
 use Rattle.wild_plan_spec.specs.Names.{Name}
@@ -28,24 +27,23 @@ use Rattle.wild_plan_spec.specs.Places.{Place, places_of}
 use Rattle.wild_plan_spec.specs.Walk.{Stands, Refuses}
 use Rattle.wild_plan_spec.specs.Line.{State}
 use Rattle.wild_plan_spec.specs.End.{finished}
-use Rattle.wild_plan_spec.specs.Layout.{Layout, placed_sections, placed_inputs, table_symbols, row_names}
+use Rattle.wild_plan_spec.specs.Layout.{Layout, placed_sections, placed_inputs, table_symbols}
 use Rattle.wild_plan_spec.specs.Fit.{AreOrdered, IsLaid, Fits, LayoutFault, EndFault, FaultIn, IsPlan, IsLaterFault, IsThePlan, IsTheFault}
 use Rattle.wild_plan_spec.proofs.Unique.{plans_once, plan_or_fault, faults_once}
 use Rattle.wild_plan.specs.declared.planning.Checked.{Checked}
 use Rattle.wild_plan.specs.declared.planning.Ended.{Ended}
 use Rattle.wild_plan.specs.declared.placement.Lists.{Lists}
 use Rattle.wild_plan.specs.declared.traits.Traits.{Traits}
-use Rattle.wild_plan.specs.declared.walk.Walk.{Walk}
 use Rattle.wild_plan.specs.Composed.{IsChecked, IsEnded, IsListed}
 use Rattle.wild_plan.specs.Entries.{shown_entries}
-use Rattle.wild_plan.specs.Listed.{sections_by, alignments_by}
+use Rattle.wild_plan.specs.Listed.{alignments_by}
 use Rattle.wild_plan.specs.Moves.{state_of}
 use Rattle.wild_plan.specs.Passes.{IsWanted}
 use Rattle.wild_plan.specs.Pointed.{pointed}
 use Rattle.wild_plan.specs.Shown.{shown}
 use Rattle.wild_plan.specs.Traits.{traits_of}
-use Rattle.wild_plan.specs.With.{AreChunks, kept_with, section_rows_with, placed_with}
-use Rattle.wild_plan.proofs.Failing.{of_table, of_symbols, places_fail, sections_fail, symbols_fail, support_fails, all_hold}
+use Rattle.wild_plan.specs.With.{kept_with, section_rows_with}
+use Rattle.wild_plan.proofs.Failing.{of_table, places_fail, sections_fail, symbols_fail, support_fails, all_hold}
 use Rattle.wild_plan.proofs.Settings.{kept, settings_same}
 use Rattle.wild_plan.proofs.Listed.{sections_same, alignments_same}
 use Rattle.wild_plan.proofs.WithRules.{section_rows_by_rules, kept_by_rules, placed_by_rules}

@@ -15,7 +15,7 @@ use Rattle.wild_plan_spec.specs.Definitions as spec
 use Rattle.wild_plan_spec.specs.Names.{Name}
 use Rattle.wild_plan_spec.specs.Places.{places_of}
 use Rattle.wild_plan_spec.specs.Rules.{rules_of}
-use Rattle.wild_plan_spec.specs.Settings.{names_of, alignments_of, or_empty, setting_with, setting_of}
+use Rattle.wild_plan_spec.specs.Settings.{names_of, alignments_of, or_empty, setting_of}
 use Rattle.wild_plan_spec.specs.Statements.{sections_of}
 use Rattle.wild_plan.specs.Entries.{shown_entries}
 use Rattle.wild_plan.specs.Pointed.{pointed}

@@ -1,5 +1,5 @@
 -- What the parts of a plan answer.
-use Rattle.std.specs.Prelude.{◌≡◌, ℕ, List, None, Ok, ◌++◌}
+use Rattle.std.specs.Prelude.{◌≡◌, ℕ, None, Ok, ◌++◌}
 use Rattle.wild_script.specs.Tree.{Bytes}
 use Rattle.wild_script.specs.declared.tree.LinkerScript.{LinkerScript}
 use Rattle.wild_eval.specs.Table.{known_of}

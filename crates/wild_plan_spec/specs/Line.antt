@@ -1,5 +1,5 @@
 -- What each place of a script does to what stands before it.
-use Rattle.std.specs.Prelude.{ℕ, zero, suc, ◌+◌, ◌^◌, ◌&&◌, Bool, nat_lt, if◌then◌else◌, List, [], ◌∷◌, ◌++◌, Option, Some, None, Result, Ok, Err}
+use Rattle.std.specs.Prelude.{ℕ, zero, suc, ◌^◌, ◌&&◌, Bool, nat_lt, if◌then◌else◌, List, [], ◌∷◌, ◌++◌, Option, Some, None, Result, Ok, Err}
 use Rattle.wild_base.specs.Alignment.{rounded_up}
 use Rattle.wild_base.specs.declared.fault.Fault.{Fault}
 use Rattle.wild_base.specs.declared.fault.Fault.TheVariants.{AlignOverflow, Overlap}

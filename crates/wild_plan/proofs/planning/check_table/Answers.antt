@@ -1,4 +1,3 @@
-use Rattle.std.proofs.Common.{IfOk, IfErr}
 use Rattle.std.proofs.lemmas.Result.{err_from_is_err_and, IfOk-weaker, IfErr-weaker}
 use Rattle.wild_plan_spec.specs.Checks.{row_checks, symbol_checks}
 use Rattle.wild_plan.proofs.Failing.{wanted_before, wanted_behind, none_behind}

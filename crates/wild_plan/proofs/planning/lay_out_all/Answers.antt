@@ -1,5 +1,5 @@
 -- The parts of the layout, in their order.
-use Rattle.std.proofs.Common.{◌∙◌, refl, ap, inl, inr, ⊎_elim, List}
+use Rattle.std.proofs.Common.{◌∙◌, ap, inl, inr, ⊎_elim, List}
 use Rattle.std.proofs.lemmas.Result.{err_from_is_err_and}
 use denote.Ref.{Bor}
 use Rattle.wild_script.specs.declared.tree.Section.{Section}
