@@ -1,4 +1,4 @@
-//! Tables of input sections.
+//! Tables of input sections and their symbols.
 
 use sqlite_items::Items;
 use wild_base::{InputFlags, Name};
