@@ -47,10 +47,10 @@ fn plans(rt: HostRuntime) -> Result<(), Fail> {
         ),
         (
             b"SECTIONS { .a : { *(.a) } }",
-            b"section,f.o,.z,1,1,A\n",
+            b"section,f.o,.z,1,1,AE\nsection,f.o,.z,1,1,AB\n",
             1,
             b"",
-            b"fault 38 Unsupported index=0\n",
+            b"fault 38 Unsupported index=1\n",
         ),
         (b"SECTIONS", b"", 1, b"", b"fault 1 Syntax position=8\n"),
     ];
@@ -337,8 +337,8 @@ fn symbol_faults(rt: HostRuntime) -> Result<(), Fail> {
 // `s0 = 1;`, and each next symbol as the one before it, up to this number.
 fn chain(alloc: Global, last: usize) -> Result<String, AllocError> {
     let mut script = String::from_str(alloc, "s0 = 1;")?;
-    for number in 1..last + 1 {
-        let line = format!(in alloc; "s{number} = s{};", number - 1)?;
+    for number in 0..last {
+        let line = format!(in alloc; "s{} = s{number};", number + 1)?;
         script.push_str(line.as_str())?;
     }
     Ok(script)
@@ -366,5 +366,57 @@ fn chains(rt: HostRuntime) -> Result<(), Fail> {
     let (answer, _, err) = planned(alloc, script.as_bytes(), b"")?;
     assert_eq!(rt; err.bytes(), b"fault 29 DeepValue statement=0\n".as_slice());
     assert_eq!(rt; answer, 1);
+    Ok(())
+}
+
+const ORPHANS: &[u8] =
+    b"section .b 0x0000000000000000 0x0000000000000000 0x0000000000000003 1 A - - -
+section .a 0x0000000000000003 0x0000000000000003 0x0000000000000001 1 A - - -
+input 0 0x0000000000000000 .b f.o .b
+input 1 0x0000000000000003 .a f.o .a
+input 2 0x0000000000000001 .b f.o .b
+";
+
+const JOINED: &[u8] = b"section .a 0x0000000000000000 0x0000000000000000 0x0000000000000004 4 A - - -
+section .b 0x0000000000000004 0x0000000000000004 0x0000000000000003 1 A - - -
+section .c 0x0000000000000008 0x0000000000000008 0x0000000000000002 8 AW - - -
+input 0 0x0000000000000004 .b f.o .b
+input 1 0x0000000000000000 .a f.o .a
+discard 2 f.o -
+input 3 0x0000000000000006 .b f.o .x
+input 4 0x0000000000000008 .c f.o .c
+discard 5 f.o .a
+symbol s 0x0000000000000005 .b default
+symbol e 0x0000000000000008 - default
+";
+
+#[test]
+fn fates(rt: HostRuntime) -> Result<(), Fail> {
+    let alloc = rt.alloc();
+    let cases: [(&[u8], &[u8], &[u8]); 3] = [
+        (
+            b"",
+            b"section,f.o,.b,1,1,A\nsection,f.o,.a,1,1,A\nsection,f.o,.b,2,1,A\n",
+            ORPHANS,
+        ),
+        (
+            b"SECTIONS { .a : { *(.a) } }",
+            b"section,f.o,.a,4,1,AE\nsymbol,x,0,0,,\n",
+            b"section .a 0x0000000000000000 0x0000000000000000 0x0000000000000000 1 A - - -
+discard 0 f.o .a
+",
+        ),
+        (
+            b"SECTIONS { .a : { } .b : { *(.x) *(.y) } } e = ADDR(.c);",
+            b"section,f.o,.b,2,1,A\nsection,f.o,.a,4,4,A\nsection,f.o,,1,1,A\nsection,f.o,.x,1,1,A\nsection,f.o,.c,2,8,AW\nsection,f.o,.a,9,1,E\nsymbol,s,0,1,,\nsymbol,u,2,1,,\n",
+            JOINED,
+        ),
+    ];
+    for (script, table, text) in cases {
+        let (answer, out, err) = planned(alloc, script, table)?;
+        assert_eq!(rt; err.bytes(), b"".as_slice());
+        assert_eq!(rt; answer, 0);
+        assert_eq!(rt; out.bytes(), text);
+    }
     Ok(())
 }

@@ -1,7 +1,7 @@
 -- What the parts of a plan answer makes what the whole answers.
-use Rattle.std.proofs.Common.{◌≡◌, ◌∙◌, ◌++◌, ℕ, List, [], ◌∷◌, length, None, Ok, Err, refl, sym, ap, subst, inl, inr, ⊎_elim}
+use Rattle.std.proofs.Common.{◌≡◌, ◌∙◌, ◌++◌, ◌+◌, ◌-◌, ℕ, suc, arith, Option, List, [], ◌∷◌, length, None, Ok, Err, refl, sym, ap, subst, inl, inr, ⊎_elim}
 use denote.Ref.{Bor}
-use Rattle.std.specs.List.{filter}
+use Rattle.std.proofs.lemmas.List.{length-append}
 use Rattle.wild_base.specs.declared.fault.Fault.{Fault}
 use Rattle.wild_base.specs.declared.fault.Fault.TheVariants.{Syntax, UnclosedComment, UnsupportedNestedSort, TooDeep, DuplicateSection, DuplicateSymbol}
 use Rattle.wild_script.specs.Tree.{Bytes, tree, IsTree, IsParseFault}
@@ -14,16 +14,18 @@ use Rattle.wild_eval.specs.Table.{known_of}
 use Rattle.wild_plan_spec.specs.declared.chunk.Chunk.{Chunk}
 use Rattle.wild_plan_spec.specs.declared.chunk.ChunkRow.{ChunkRow}
 use Rattle.wild_plan_spec.specs.declared.placed.PlacedSymbol.{PlacedSymbol}
+use Rattle.wild_plan_spec.specs.declared.row.InputRow.{InputRow}
 use Rattle.wild_plan_spec.specs.declared.row.InputTable.{InputTable}
 use Rattle.wild_plan_spec.specs.Statements.{sections_of}
 use Rattle.wild_plan_spec.specs.Rules.{Rule, rules_of}
-use Rattle.wild_plan_spec.specs.Chunks.{is_of, section_rows}
+use Rattle.wild_plan_spec.specs.Chunks.{section_rows, rows_in}
 use Rattle.wild_plan_spec.specs.Checks.{place_checks, name_checks, support_checks, checks, failing}
 use Rattle.wild_plan_spec.specs.Definitions.{Entry, entry_names, firm_entries, provided_entries, all_entries}
 use Rattle.wild_plan_spec.specs.Names.{Name}
 use Rattle.wild_plan_spec.specs.Order.{IsOrdered, stands_before}
-use Rattle.wild_plan_spec.specs.Settings.{names_of, alignments_of, setting_of}
-use Rattle.wild_plan_spec.specs.Places.{Place, places_of}
+use Rattle.wild_plan_spec.specs.Fates.{names_of, orphans, names_asked, orphans_of, section_names, fates_of}
+use Rattle.wild_plan_spec.specs.Settings.{alignments_of, setting_of}
+use Rattle.wild_plan_spec.specs.Places.{Place, Open, Rows, Close, script_places, places_of, orphan_places}
 use Rattle.wild_plan_spec.specs.Walk.{Stands, Refuses}
 use Rattle.wild_plan_spec.specs.Line.{State}
 use Rattle.wild_plan_spec.specs.End.{finished}
@@ -31,30 +33,58 @@ use Rattle.wild_plan_spec.specs.Layout.{Layout, placed_sections, placed_inputs, 
 use Rattle.wild_plan_spec.specs.Fit.{AreOrdered, IsLaid, Fits, LayoutFault, EndFault, FaultIn, IsPlan, IsLaterFault, IsThePlan, IsTheFault}
 use Rattle.wild_plan_spec.proofs.Unique.{plans_once, plan_or_fault, faults_once}
 use Rattle.wild_plan.specs.declared.planning.Checked.{Checked}
+use Rattle.wild_plan.specs.declared.planning.Placed.{Placed}
 use Rattle.wild_plan.specs.declared.planning.Ended.{Ended}
 use Rattle.wild_plan.specs.declared.placement.Lists.{Lists}
 use Rattle.wild_plan.specs.declared.traits.Traits.{Traits}
-use Rattle.wild_plan.specs.Composed.{IsChecked, IsEnded, IsListed}
+use Rattle.wild_plan.specs.Composed.{IsPlacedBy, IsPlaced, IsChecked, IsEnded, IsListed}
 use Rattle.wild_plan.specs.Entries.{shown_entries}
 use Rattle.wild_plan.specs.Listed.{alignments_by}
 use Rattle.wild_plan.specs.Moves.{state_of}
+use Rattle.wild_plan.specs.Orphaned.{orphans_from}
 use Rattle.wild_plan.specs.Passes.{IsWanted}
 use Rattle.wild_plan.specs.Pointed.{pointed}
 use Rattle.wild_plan.specs.Shown.{shown}
 use Rattle.wild_plan.specs.Traits.{traits_of}
-use Rattle.wild_plan.specs.With.{kept_with, section_rows_with}
 use Rattle.wild_plan.proofs.Failing.{of_table, places_fail, sections_fail, symbols_fail, support_fails, all_hold}
 use Rattle.wild_plan.proofs.Settings.{kept, settings_same}
 use Rattle.wild_plan.proofs.Listed.{sections_same, alignments_same}
-use Rattle.wild_plan.proofs.WithRules.{section_rows_by_rules, kept_by_rules, placed_by_rules}
 
 entry_names_append : (xs ys : List Entry) → entry_names (xs ++ ys) ≡ entry_names xs ++ entry_names ys
 entry_names_append [] ys = refl
 entry_names_append (x ∷ xs) ys = ap (λ (ns : List Name). x.name ∷ ns) (entry_names_append xs ys)
 
+-- ---- rows
+
+names_length : (xs : List Section) → length (names_of xs) ≡ length xs
+names_length [] = refl
+names_length (x ∷ xs) = ap suc (names_length xs)
+
+orphans_same : (s : ℕ) (xs : List Name) → orphans_from s (length xs) ≡ orphan_places s xs
+orphans_same s [] = refl
+orphans_same s (x ∷ xs) = ap (λ (ps : List Place). Open s ∷ Rows (record { «section» = s; number = 0 }) ∷ Close s None ∷ ps) (orphans_same (s + 1) xs)
+
+both_lengths : (xs ys : List Name) → length (xs ++ ys) - length xs ≡ length ys
+both_lengths xs ys = let e = length-append xs ys in omega (arith, e)
+
+module _ (t : LinkerScript) (inputs : InputTable) (ps : List Place) (rules : List Rule) (own : List Name) (rows : List InputRow) (placed : Placed) (by : IsPlacedBy ps rules own rows placed)
+    (in_places : ps ≡ script_places t) (in_rules : rules ≡ rules_of t) (in_names : own ≡ names_of (sections_of t)) (in_rows : rows ≡ inputs.rows) where
+  first_orphan : length own ≡ length (sections_of t)
+  first_orphan = ap (λ (xs : List Name). length xs) in_names ∙ names_length (sections_of t)
+
+  orphans_are : orphans own (names_asked rules rows) ≡ orphans_of t inputs
+  orphans_are = rw (in_names, in_rules, in_rows) refl
+
+  pub rows_placed : IsPlaced t inputs placed
+  rows_placed = record {
+    names = by.names ∙ rw (orphans_are, in_names) refl;
+    fates = by.fates ∙ rw (orphans_are, in_names, in_rules, in_rows) refl;
+    places = by.all_places ∙ rw (both_lengths own (orphans own (names_asked rules rows)), orphans_same (length own) (orphans own (names_asked rules rows)), orphans_are, first_orphan, in_places) refl;
+  }
+
 -- ---- checks
 
-module _ (t : LinkerScript) (inputs : InputTable) (ps : List Place) (in_places : ps ≡ places_of t) (a : failing (of_table t inputs) ≡ None) where
+module _ (t : LinkerScript) (inputs : InputTable) (ps : List Place) (in_places : ps ≡ script_places t) (a : failing (of_table t inputs) ≡ None) where
   pub places_refused : (f : Fault) → IsWanted (failing (place_checks 0 ps)) f → IsWanted (failing (checks t inputs)) f
   places_refused f h = places_fail t inputs a f (rw in_places at h)
 
@@ -62,59 +92,59 @@ module _ (t : LinkerScript) (inputs : InputTable) (ps : List Place) (in_places :
     pub sections_refused : (f : Fault) → IsWanted (failing (name_checks DuplicateSection [] (names_of xs))) f → IsWanted (failing (checks t inputs)) f
     sections_refused f h = sections_fail t inputs a (rw in_places at b) f (rw in_sections at h)
 
-    module _ (c : failing (name_checks DuplicateSection [] (names_of xs)) ≡ None) (rules : List Rule) (in_rules : rules ≡ rules_of t) (es : List Entry) (in_entries : es ≡ firm_entries rules inputs.rows inputs.symbols ps) where
-      all_entries_same : es ≡ firm_entries (rules_of t) inputs.rows inputs.symbols (places_of t)
-      all_entries_same = in_entries ∙ rw (in_rules, in_places) refl
+    module _ (c : failing (name_checks DuplicateSection [] (names_of xs)) ≡ None) (placed : Placed) (is_placed : IsPlaced t inputs placed) (es : List Entry) (in_entries : es ≡ firm_entries placed.fates inputs.symbols (shown placed.places)) where
+      all_entries_same : es ≡ firm_entries (fates_of t inputs) inputs.symbols (places_of t inputs)
+      all_entries_same = in_entries ∙ rw (is_placed.fates, is_placed.places) refl
 
       pub symbols_refused : (f : Fault) → IsWanted (failing (name_checks DuplicateSymbol [] (entry_names es))) f → IsWanted (failing (checks t inputs)) f
       symbols_refused f h = symbols_fail t inputs a (rw in_places at b) (rw in_sections at c) f (rw all_entries_same at h)
 
       module _ (d : failing (name_checks DuplicateSymbol [] (entry_names es)) ≡ None) where
-        pub support_refused : (f : Fault) → IsWanted (failing (support_checks rules 0 inputs.rows)) f → IsWanted (failing (checks t inputs)) f
-        support_refused f h = support_fails t inputs a (rw in_places at b) (rw in_sections at c) (rw all_entries_same at d) f (rw in_rules at h)
+        pub support_refused : (f : Fault) → IsWanted (failing (support_checks 0 inputs.rows placed.fates)) f → IsWanted (failing (checks t inputs)) f
+        support_refused f h = support_fails t inputs a (rw in_places at b) (rw in_sections at c) (rw all_entries_same at d) f (rw is_placed.fates at h)
 
-        pub entries_complete : (next : List Entry) → next ≡ es ++ provided_entries 0 ps → next ≡ all_entries (rules_of t) inputs.rows inputs.symbols (places_of t)
-        entries_complete next e = e ∙ rw (all_entries_same, in_places) refl
+        pub entries_complete : (next : List Entry) → next ≡ es ++ provided_entries 0 (shown placed.places) → next ≡ all_entries (fates_of t inputs) inputs.symbols (places_of t inputs)
+        entries_complete next e = e ∙ rw (all_entries_same, is_placed.places) refl
 
-        pub names_complete : (names next : List Name) → names ≡ entry_names es → next ≡ names ++ entry_names (provided_entries 0 ps) → next ≡ entry_names (all_entries (rules_of t) inputs.rows inputs.symbols (places_of t))
-        names_complete names next e f = f ∙ ap (λ (xs : List Name). xs ++ entry_names (provided_entries 0 ps)) e ∙ sym (entry_names_append es (provided_entries 0 ps)) ∙ ap entry_names (entries_complete (es ++ provided_entries 0 ps) refl)
+        pub names_complete : (names next : List Name) → names ≡ entry_names es → next ≡ names ++ entry_names (provided_entries 0 (shown placed.places)) → next ≡ entry_names (all_entries (fates_of t inputs) inputs.symbols (places_of t inputs))
+        names_complete names next e f = f ∙ ap (λ (xs : List Name). xs ++ entry_names (provided_entries 0 (shown placed.places))) e ∙ sym (entry_names_append es (provided_entries 0 (shown placed.places))) ∙ ap entry_names (entries_complete (es ++ provided_entries 0 (shown placed.places)) refl)
 
-        pub checks_hold : failing (support_checks rules 0 inputs.rows) ≡ None → failing (checks t inputs) ≡ None
-        checks_hold e = all_hold t inputs a (rw in_places at b) (rw in_sections at c) (rw all_entries_same at d) (rw in_rules at e)
+        pub checks_hold : failing (support_checks 0 inputs.rows placed.fates) ≡ None → failing (checks t inputs) ≡ None
+        checks_hold e = all_hold t inputs a (rw in_places at b) (rw in_sections at c) (rw all_entries_same at d) (rw is_placed.fates at e)
 
 -- ---- layout
 
 module _ (script : Bytes) (t : LinkerScript) (inputs : InputTable) (checked : Checked) (c : IsChecked t inputs checked) where
   -- the traits of each section, by its rows
-  pub traits_rules : (traits : ℕ → Traits) → ((s : ℕ) → traits s ≡ traits_of (section_rows_with s inputs.rows checked.chunks)) → (s : ℕ) → traits s ≡ traits_of (section_rows (rules_of t) s inputs.rows)
-  traits_rules traits h s = h s ∙ ap traits_of (section_rows_by_rules (rules_of t) s inputs.rows checked.chunks c.chunks)
+  pub traits_fates : (traits : ℕ → Traits) → ((s : ℕ) → traits s ≡ traits_of (section_rows s inputs.rows checked.placed.fates)) → (s : ℕ) → traits s ≡ traits_of (section_rows s inputs.rows (fates_of t inputs))
+  traits_fates traits h s = h s ∙ ap (λ (fs : List (Option Chunk)). traits_of (section_rows s inputs.rows fs)) c.placed.fates
 
-  pub ordered_rows : (order : Chunk → List ChunkRow) → ((q : Chunk) → IsOrdered stands_before (filter (is_of q) (kept_with 0 inputs.rows checked.chunks)) (order q)) → AreOrdered script t inputs order
-  ordered_rows order h = λ q. subst (λ (ks : List ChunkRow). IsOrdered stands_before (filter (is_of q) ks) (order q)) (kept_by_rules (rules_of t) 0 inputs.rows checked.chunks c.chunks) (h q)
+  pub ordered_rows : (order : Chunk → List ChunkRow) → ((q : Chunk) → IsOrdered stands_before (rows_in q inputs.rows checked.placed.fates) (order q)) → AreOrdered script t inputs order
+  ordered_rows order h = λ q. subst (λ (fs : List (Option Chunk)). IsOrdered stands_before (rows_in q inputs.rows fs) (order q)) c.placed.fates (h q)
 
-  module _ (names : List (Bor Name)) (alignments : List ℕ) (entries : List borrowed.Entry) (traits : ℕ → Traits) (of_traits : (s : ℕ) → traits s ≡ traits_of (section_rows_with s inputs.rows checked.chunks))
-      (in_names : pointed names ≡ names_of (pointed checked.parts.sections)) (in_alignments : alignments ≡ alignments_by traits 0 (pointed checked.parts.sections)) (in_entries : entries ≡ checked.entries) where
+  module _ (names : List (Bor Name)) (numbers : List Name) (alignments : List ℕ) (entries : List borrowed.Entry) (traits : ℕ → Traits) (of_traits : (s : ℕ) → traits s ≡ traits_of (section_rows s inputs.rows checked.placed.fates))
+      (in_names : pointed names ≡ checked.placed.names) (in_numbers : numbers ≡ checked.placed.names) (in_alignments : alignments ≡ alignments_by traits 0 checked.placed.names) (in_entries : entries ≡ checked.entries) where
     abbrev said : Setting
-    said = kept names checked.section_names alignments checked.symbols entries script
+    said = kept names numbers alignments checked.symbols entries script
 
     setting_same : said ≡ setting_of script t inputs
-    setting_same = settings_same names checked.section_names alignments checked.symbols entries script t inputs
-        (in_names ∙ ap names_of c.parts.sections)
-        c.section_names
-        (in_alignments ∙ alignments_same (rules_of t) inputs.rows traits (traits_rules traits of_traits) 0 (pointed checked.parts.sections) ∙ ap (alignments_of (rules_of t) inputs.rows 0) c.parts.sections)
+    setting_same = settings_same names numbers alignments checked.symbols entries script t inputs
+        (in_names ∙ c.placed.names)
+        (in_numbers ∙ c.placed.names)
+        (in_alignments ∙ alignments_same inputs.rows (fates_of t inputs) traits (traits_fates traits of_traits) 0 checked.placed.names ∙ ap (alignments_of inputs.rows (fates_of t inputs) 0) c.placed.names)
         c.symbols
         (ap shown_entries in_entries ∙ c.entries)
 
-    module _ (order : Chunk → List ChunkRow) (ordered : (q : Chunk) → IsOrdered stands_before (filter (is_of q) (kept_with 0 inputs.rows checked.chunks)) (order q)) (places : List Place) (in_places : places ≡ shown checked.parts.places) where
-      places_same : places ≡ places_of t
-      places_same = in_places ∙ c.parts.places
+    module _ (order : Chunk → List ChunkRow) (ordered : (q : Chunk) → IsOrdered stands_before (rows_in q inputs.rows checked.placed.fates) (order q)) (places : List Place) (in_places : places ≡ shown checked.placed.places) where
+      places_same : places ≡ places_of t inputs
+      places_same = in_places ∙ c.placed.places
 
       pub refused : (fault : Fault) → Refuses said order places fault → LayoutFault script t inputs fault
       refused fault h = record {
         sound = c.sound;
         order = order;
         ordered = ordered_rows order ordered;
-        refuses = subst (λ (s : Setting). Refuses s order (places_of t) fault) setting_same (subst (λ (ps : List Place). Refuses said order ps fault) places_same h);
+        refuses = subst (λ (s : Setting). Refuses s order (places_of t inputs) fault) setting_same (subst (λ (ps : List Place). Refuses said order ps fault) places_same h);
       }
 
       module _ (state : State) (stands : Stands said order places (length places) state) where
@@ -123,16 +153,16 @@ module _ (script : Bytes) (t : LinkerScript) (inputs : InputTable) (checked : Ch
           sound = c.sound;
           order = order;
           ordered = ordered_rows order ordered;
-          stands = subst (λ (s : Setting). Stands s order (places_of t) (length (places_of t)) state) setting_same (subst (λ (ps : List Place). Stands said order ps (length ps) state) places_same stands);
+          stands = subst (λ (s : Setting). Stands s order (places_of t inputs) (length (places_of t inputs)) state) setting_same (subst (λ (ps : List Place). Stands said order ps (length ps) state) places_same stands);
         }
 
-        finished_same : finished said state.known places ≡ finished (setting_of script t inputs) state.known (places_of t)
-        finished_same = ap (λ (ps : List Place). finished said state.known ps) places_same ∙ ap (λ (s : Setting). finished s state.known (places_of t)) setting_same
+        finished_same : finished said state.known places ≡ finished (setting_of script t inputs) state.known (places_of t inputs)
+        finished_same = ap (λ (ps : List Place). finished said state.known ps) places_same ∙ ap (λ (s : Setting). finished s state.known (places_of t inputs)) setting_same
 
         pub end_refused : (fault : Fault) → finished said state.known places ≡ Err fault → EndFault script t inputs fault
         end_refused fault h = record { state = state; laid = laid; refused = sym finished_same ∙ h }
 
-        pub finishes : (found : List PlacedSymbol) → finished said state.known places ≡ Ok found → finished (setting_of script t inputs) state.known (places_of t) ≡ Ok found
+        pub finishes : (found : List PlacedSymbol) → finished said state.known places ≡ Ok found → finished (setting_of script t inputs) state.known (places_of t inputs) ≡ Ok found
         finishes found h = sym finished_same ∙ h
 
   -- ---- lists
@@ -141,14 +171,14 @@ module _ (script : Bytes) (t : LinkerScript) (inputs : InputTable) (checked : Ch
     abbrev known : Known
     known = known_of ended.walk.table
 
-    listed_sections : lists.sections ≡ placed_sections known (rules_of t) inputs.rows 0 (sections_of t)
-    listed_sections = l.sections ∙ sections_same known (rules_of t) inputs.rows _ e.traits 0 (pointed checked.parts.sections) ∙ ap (placed_sections known (rules_of t) inputs.rows 0) c.parts.sections
+    listed_sections : lists.sections ≡ placed_sections known inputs.rows (fates_of t inputs) 0 (section_names t inputs)
+    listed_sections = l.sections ∙ sections_same inputs.rows (fates_of t inputs) _ e.traits known 0 checked.placed.names ∙ ap (placed_sections known inputs.rows (fates_of t inputs) 0) c.placed.names
 
-    listed_inputs : lists.placements ≡ placed_inputs known (rules_of t) 0 inputs.rows
-    listed_inputs = l.placements ∙ placed_by_rules (rules_of t) known 0 inputs.rows checked.chunks c.chunks
+    listed_inputs : lists.placements ≡ placed_inputs known 0 (fates_of t inputs)
+    listed_inputs = l.placements ∙ ap (placed_inputs known 0) c.placed.fates
 
-    listed_symbols : lists.symbols ≡ table_symbols known (rules_of t) inputs.rows inputs.symbols ++ ended.found
-    listed_symbols = l.symbols ∙ ap (λ (rs : List Rule). table_symbols known rs inputs.rows inputs.symbols ++ ended.found) c.parts.rules
+    listed_symbols : lists.symbols ≡ table_symbols known (fates_of t inputs) inputs.symbols ++ ended.found
+    listed_symbols = l.symbols ∙ ap (λ (fs : List (Option Chunk)). table_symbols known fs inputs.symbols ++ ended.found) c.placed.fates
 
     pub lists_fit : Fits script t inputs (record { script = t; sections = lists.sections; placements = lists.placements; locations = lists.locations; symbols = lists.symbols; names = lists.names })
     lists_fit = record {

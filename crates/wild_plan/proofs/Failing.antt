@@ -5,9 +5,8 @@ use Rattle.wild_base.specs.declared.fault.Fault.{Fault}
 use Rattle.wild_base.specs.declared.fault.Fault.TheVariants.{DuplicateSection, DuplicateSymbol}
 use Rattle.wild_script.specs.declared.tree.LinkerScript.{LinkerScript}
 use Rattle.wild_plan_spec.specs.declared.row.InputTable.{InputTable}
-use Rattle.wild_plan_spec.specs.Rules.{rules_of}
-use Rattle.wild_plan_spec.specs.Places.{places_of}
-use Rattle.wild_plan_spec.specs.Settings.{names_of}
+use Rattle.wild_plan_spec.specs.Fates.{names_of, fates_of}
+use Rattle.wild_plan_spec.specs.Places.{script_places, places_of}
 use Rattle.wild_plan_spec.specs.Statements.{sections_of}
 use Rattle.wild_plan_spec.specs.Definitions.{entry_names, firm_entries}
 use Rattle.wild_plan_spec.specs.Checks.{Check, row_checks, symbol_checks, place_checks, name_checks, support_checks, checks, failing}
@@ -50,16 +49,16 @@ module _ (t : LinkerScript) (inputs : InputTable) where
   of_table = row_checks 0 inputs.rows ++ symbol_checks inputs.rows 0 inputs.symbols
 
   abbrev pub of_places : List Check
-  of_places = place_checks 0 (places_of t)
+  of_places = place_checks 0 (script_places t)
 
   abbrev pub of_sections : List Check
   of_sections = name_checks DuplicateSection [] (names_of (sections_of t))
 
   abbrev pub of_symbols : List Check
-  of_symbols = name_checks DuplicateSymbol [] (entry_names (firm_entries (rules_of t) inputs.rows inputs.symbols (places_of t)))
+  of_symbols = name_checks DuplicateSymbol [] (entry_names (firm_entries (fates_of t inputs) inputs.symbols (places_of t inputs)))
 
   abbrev pub of_support : List Check
-  of_support = support_checks (rules_of t) 0 inputs.rows
+  of_support = support_checks 0 inputs.rows (fates_of t inputs)
 
   pub table_fails : (fault : Fault) → IsWanted (failing of_table) fault → IsWanted (failing (checks t inputs)) fault
   table_fails fault h = wanted_before (of_table ++ of_places ++ of_sections ++ of_symbols) of_support fault (wanted_before (of_table ++ of_places ++ of_sections) of_symbols fault

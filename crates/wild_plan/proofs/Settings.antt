@@ -14,9 +14,8 @@ use Rattle.wild_plan_spec.specs.declared.row.InputTable.{InputTable}
 use Rattle.wild_plan_spec.specs.Definitions as spec
 use Rattle.wild_plan_spec.specs.Names.{Name}
 use Rattle.wild_plan_spec.specs.Places.{places_of}
-use Rattle.wild_plan_spec.specs.Rules.{rules_of}
-use Rattle.wild_plan_spec.specs.Settings.{names_of, alignments_of, or_empty, setting_of}
-use Rattle.wild_plan_spec.specs.Statements.{sections_of}
+use Rattle.wild_plan_spec.specs.Fates.{section_names, fates_of}
+use Rattle.wild_plan_spec.specs.Settings.{alignments_of, or_empty, setting_of}
 use Rattle.wild_plan.specs.Entries.{shown_entries}
 use Rattle.wild_plan.specs.Pointed.{pointed}
 
@@ -41,7 +40,7 @@ made_same : {n m : ℕ → Name} {s r : Name → Option ℕ} {a b : ℕ → ℕ}
 made_same p q r u v = rw (p, q, r, u, v) refl
 
 abbrev all_of : LinkerScript → InputTable → List spec.Entry
-all_of t inputs = spec.all_entries (rules_of t) inputs.rows inputs.symbols (places_of t)
+all_of t inputs = spec.all_entries (fates_of t inputs) inputs.symbols (places_of t inputs)
 
 -- what is said by lists of names, alignments and entries as they are kept
 abbrev pub kept : List (Bor Name) → List Name → List ℕ → List Name → List Entry → Bytes → Setting
@@ -54,7 +53,7 @@ kept sections numbers alignments symbols entries script = record {
 }
 
 pub settings_same : (sections : List (Bor Name)) (numbers : List Name) (alignments : List ℕ) (symbols : List Name) (entries : List Entry) (script : Bytes) (t : LinkerScript) (inputs : InputTable)
-    → pointed sections ≡ names_of (sections_of t) → numbers ≡ names_of (sections_of t) → alignments ≡ alignments_of (rules_of t) inputs.rows 0 (sections_of t)
+    → pointed sections ≡ section_names t inputs → numbers ≡ section_names t inputs → alignments ≡ alignments_of inputs.rows (fates_of t inputs) 0 (section_names t inputs)
     → symbols ≡ spec.entry_names (all_of t inputs) → shown_entries entries ≡ all_of t inputs → kept sections numbers alignments symbols entries script ≡ setting_of script t inputs
 unfolding made
 settings_same sections numbers alignments symbols entries script t inputs a b c d e = made_same

@@ -4,7 +4,8 @@ pub mod Entries
 pub mod Paired
 pub mod Passes
 pub mod Traits
-pub mod With
+pub mod Collected
+pub mod Orphaned
 pub mod Chunks
 pub mod Moves
 pub mod Listed

@@ -33,7 +33,7 @@ shown_place (Within task) = spec.Within (bare_task task)
 shown_place (Outside task) = spec.Outside (bare_task task)
 shown_place (Open s) = spec.Open s
 shown_place (Rows q) = spec.Rows q
-shown_place (Close s) = spec.Close s
+shown_place (Close s rest) = spec.Close s rest
 
 abbrev pub shown : List Place → List spec.Place
 shown [] = []

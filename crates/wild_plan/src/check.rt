@@ -1,24 +1,21 @@
 //! What is checked before a script and its rows are laid out.
 
-ghost use Rattle.std.specs.Prelude.{◌≡◌, [], ◌∷◌, ◌++◌, None, Some, OnOk, IfOk, IfErr, not, slice_get};
+ghost use Rattle.std.specs.Prelude.{◌≡◌, [], ◌∷◌, ◌++◌, OnOk, IfOk, not, slice_get, length};
 ghost use Rattle.std.specs.List.{list_any};
 ghost use Rattle.wild_base.specs.Numbering.{is_named};
 ghost use Rattle.wild_base.specs.declared.fault.Fault.TheVariants.{DuplicateSection, DuplicateSymbol};
-ghost use Rattle.wild_plan_spec.specs.Rules.{chunk_of};
-ghost use Rattle.wild_plan_spec.specs.Checks.{row_checks, holds_offset, symbol_checks, is_task_built, is_place_built, place_checks, name_checks, support_checks, is_plain, failing};
+ghost use Rattle.wild_plan_spec.specs.Checks.{row_checks, holds_offset, symbol_checks, is_task_built, is_place_built, place_checks, name_checks, is_plain, is_supported, support_checks, failing};
 ghost use Rattle.wild_plan_spec.specs.Definitions.{entry_names};
-ghost use Rattle.wild_plan_spec.specs.Settings.{names_of};
+ghost use Rattle.wild_plan_spec.specs.Fates.{names_of};
 ghost use Rattle.wild_plan.specs.Entries.{shown_entries};
 ghost use Rattle.wild_plan.specs.Pointed.{pointed};
 ghost use Rattle.wild_plan.specs.Shown.{shown_task, shown_place, shown};
-ghost use Rattle.wild_plan.specs.Passes.{Passes, PassesWith, IsWanted, repeated};
-ghost use Rattle.wild_plan.specs.With.{AreChunks};
+ghost use Rattle.wild_plan.specs.Passes.{Passes, PassesWith, repeated};
 
 use crate::built::is_built;
 use crate::places::{Place, Task};
-use crate::rules::Rules;
+use crate::section_names::SectionNames;
 use bitflags::Flags;
-use sqlite_items::Items;
 use std::alloc::Global;
 use wild_base::{Alignment, Fault, InputFlags, Name, NoMemory, Numbering};
 use wild_eval::Entry;
@@ -105,17 +102,21 @@ fn push_name(alloc: Global, names: &mut Numbering, name: &Name) -> Result<bool, 
     Ok(first)
 }
 
-fn push_section(alloc: Global, names: &mut Numbering, section: &Section) -> Result<(), Fault>
-    ensures pushed { OnOk result (names.new ≡ names.old ++ section.now.output_section_name ∷ []) }
-    ensures passes { Passes (repeated DuplicateSection names.old section.now.output_section_name) result }
+#[tactic(auto, using(crate::proofs::Names::any_number))]
+fn push_section<'a>(
+    alloc: Global,
+    names: SectionNames<'a>,
+    section: &'a Section,
+) -> Result<SectionNames<'a>, Fault>
+    ensures pushed { IfOk result (λ next. next ≡ names.entry ++ section.now.output_section_name ∷ []) }
+    ensures passes { PassesWith (repeated DuplicateSection names.entry section.now.output_section_name) result }
 {
     let name = &section.output_section_name;
-    if push_name(alloc, names, name)? {
-        Ok(())
-    } else {
+    if names.get(name).is_some() {
         let name = name.copy(alloc)?;
-        Err(Fault::DuplicateSection { name })
+        return Err(Fault::DuplicateSection { name });
     }
+    Ok(names.with(alloc, name)?)
 }
 
 fn push_symbol(alloc: Global, names: &mut Numbering, entry: &Entry<'_>) -> Result<(), Fault>
@@ -133,13 +134,16 @@ fn push_symbol(alloc: Global, names: &mut Numbering, entry: &Entry<'_>) -> Resul
 
 /// The names of the sections, of which no two are the same. The fault is that of the first with the name of an earlier
 /// one.
-pub fn number_sections(alloc: Global, sections: &[&Section]) -> Result<Numbering, Fault>
+pub fn number_sections<'a>(
+    alloc: Global,
+    sections: &[&'a Section],
+) -> Result<SectionNames<'a>, Fault>
     ensures names { IfOk result (λ names. names ≡ names_of (pointed sections.now)) }
     ensures passes { PassesWith (failing (name_checks DuplicateSection [] (names_of (pointed sections.now)))) result }
 {
-    let mut names = Numbering::new(alloc);
+    let mut names = SectionNames::new(alloc);
     for section in sections {
-        push_section(alloc, &mut names, section)?;
+        names = push_section(alloc, names, section)?;
     }
     Ok(names)
 }
@@ -157,40 +161,34 @@ pub fn number_entries(alloc: Global, entries: &[Entry<'_>]) -> Result<Numbering,
     Ok(names)
 }
 
-/// It is in memory, and neither without bits, nor thread-local, nor excluded.
+/// It is in memory, and neither without bits nor thread-local.
 fn is_plain(flags: InputFlags) -> bool
     ensures { result ≡ is_plain flags }
 {
     flags.contains(InputFlags::ALLOC)
         && !flags.contains(InputFlags::NOBITS)
         && !flags.contains(InputFlags::TLS)
-        && !flags.contains(InputFlags::EXCLUDE)
 }
 
-/// The chunk of the row of this number.
-fn row_chunk(rules: &Rules, index: usize, row: &InputRow) -> Result<Chunk, Fault>
-    ensures ok { IfOk result (λ chunk. (failing (support_checks rules.now index (row.now ∷ [])) ≡ None) × (chunk_of rules.now row.now.«section» ≡ Some chunk)) }
-    ensures err { IfErr result (λ fault. failing (support_checks rules.now index (row.now ∷ [])) ≡ Some fault) }
+// Where a row is kept, its flags are built.
+fn is_supported(fate: Option<Chunk>, flags: InputFlags) -> bool
+    ensures { result ≡ is_supported fate flags }
 {
-    match rules.chunk_of(&row.section) {
-        Some(chunk) if is_plain(row.flags) => Ok(chunk),
-        _ => Err(Fault::Unsupported { index }),
+    match fate {
+        Some(_) => is_plain(flags),
+        None => true,
     }
 }
 
-/// The chunk of each row. The fault is that of the first row with no chunk, or with flags that are not built.
-pub fn find_row_chunks(
-    alloc: Global,
-    rules: &Rules,
-    rows: &[InputRow],
-) -> Result<Items<Chunk>, Fault>
-    ensures ok { IfOk result (λ chunks. (failing (support_checks rules.now 0 rows.now) ≡ None) × AreChunks rules.now rows.now chunks) }
-    ensures err { IfErr result (IsWanted (failing (support_checks rules.now 0 rows.now))) }
+/// Checks that the flags of each row that is kept are built. The fault is that of the first row with others.
+pub fn check_support(rows: &[InputRow], fates: &[Option<Chunk>]) -> Result<(), Fault>
+    requires { length fates.now ≡ length rows.now }
+    ensures { Passes (failing (support_checks 0 rows.now fates.now)) result }
 {
-    let mut chunks = Items::new(alloc);
     for (index, row) in rows.iter().enumerate() {
-        let chunk = row_chunk(rules, index, row)?;
-        chunks.push(chunk)?;
+        if !is_supported(fates[index], row.flags) {
+            return Err(Fault::Unsupported { index });
+        }
     }
-    Ok(chunks)
+    Ok(())
 }

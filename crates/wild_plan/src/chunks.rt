@@ -3,10 +3,9 @@
 ghost use Rattle.std.specs.Prelude.{◌≡◌, [], ◌∷◌, ◌++◌, length, if◌then◌else◌, IfOk, OnOk};
 ghost use Rattle.std.specs.List.{filter};
 ghost use Rattle.wild_plan_spec.specs.declared.chunk.Chunk.{Chunk};
-ghost use Rattle.wild_plan_spec.specs.Chunks.{is_of};
+ghost use Rattle.wild_plan_spec.specs.Chunks.{is_of, kept_row, kept_rows, rows_in};
+ghost use Rattle.wild_plan.specs.Chunks.{rows_at, option_list};
 ghost use Rattle.wild_plan_spec.specs.Order.{IsOrdered, stands_before};
-ghost use Rattle.wild_plan.specs.Chunks.{rows_at};
-ghost use Rattle.wild_plan.specs.With.{kept_with};
 
 use crate::traits::alignment_of;
 use std::alloc::{AllocError, Global};
@@ -57,19 +56,38 @@ impl Chunks {
     }
 }
 
-/// The rows in table order, each with its chunk.
-fn in_chunks(alloc: Global, rows: &[InputRow], chunks: &[Chunk]) -> Result<Vec<ChunkRow>, NoMemory>
-    requires { length chunks.now ≡ length rows.now }
-    ensures { IfOk result (λ kept. kept.items ≡ kept_with 0 rows.now chunks.now) }
+// A row of this number behind the others, where it has a chunk.
+fn push_kept(
+    kept: &mut Vec<ChunkRow>,
+    number: usize,
+    row: &InputRow,
+    fate: Option<Chunk>,
+) -> Result<(), NoMemory>
+    ensures { OnOk result (kept.new.items ≡ kept.old.items ++ option_list (kept_row number row.now fate)) }
+{
+    if let Some(chunk) = fate {
+        kept.push(ChunkRow {
+            alignment: Reverse(alignment_of(row)),
+            row: number,
+            size: row.size,
+            chunk,
+        })?;
+    }
+    Ok(())
+}
+
+/// The rows that are kept, in table order, each with its chunk.
+fn in_chunks(
+    alloc: Global,
+    rows: &[InputRow],
+    fates: &[Option<Chunk>],
+) -> Result<Vec<ChunkRow>, NoMemory>
+    requires { length fates.now ≡ length rows.now }
+    ensures { IfOk result (λ kept. kept.items ≡ kept_rows 0 rows.now fates.now) }
 {
     let mut kept = Vec::new(alloc);
     for (i, row) in rows.iter().enumerate() {
-        kept.push(ChunkRow {
-            alignment: Reverse(alignment_of(row)),
-            row: i,
-            size: row.size,
-            chunk: chunks[i],
-        })?;
+        push_kept(&mut kept, i, row, fates[i])?;
     }
     Ok(kept)
 }
@@ -91,12 +109,16 @@ fn by_chunk(alloc: Global, rows: &[ChunkRow]) -> Result<Chunks, NoMemory>
     Ok(chunks)
 }
 
-/// The rows of each chunk in their order, where each row has its chunk beside it.
-pub fn find_chunks(alloc: Global, rows: &[InputRow], chunks: &[Chunk]) -> Result<Chunks, NoMemory>
-    requires { length chunks.now ≡ length rows.now }
-    ensures { IfOk result (λ c. (q : Chunk) → IsOrdered stands_before (filter (is_of q) (kept_with 0 rows.now chunks.now)) (rows_at c q)) }
+/// The rows of each chunk in their order, where each row has its fate beside it.
+pub fn find_chunks(
+    alloc: Global,
+    rows: &[InputRow],
+    fates: &[Option<Chunk>],
+) -> Result<Chunks, NoMemory>
+    requires { length fates.now ≡ length rows.now }
+    ensures { IfOk result (λ c. (q : Chunk) → IsOrdered stands_before (rows_in q rows.now fates.now) (rows_at c q)) }
 {
-    let mut kept = in_chunks(alloc, rows, chunks)?;
+    let mut kept = in_chunks(alloc, rows, fates)?;
     sort(&mut kept)?;
     by_chunk(alloc, &kept)
 }

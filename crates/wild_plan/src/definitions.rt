@@ -7,12 +7,11 @@ ghost use Rattle.wild_plan.specs.Entries.{shown_entries};
 ghost use Rattle.wild_plan.specs.Shown.{shown, shown_place, shown_task};
 
 use crate::places::{Place, Task};
-use crate::rules::Rules;
 use sqlite_items::Items;
 use std::alloc::Global;
 use wild_base::{Name, NoMemory, Numbering};
 use wild_eval::{Definition, Entry};
-use wild_plan_spec::{Chunk, InputRow, InputTable, SymbolRow};
+use wild_plan_spec::{Chunk, SymbolRow};
 use wild_script::ProvideSymbolDefinition;
 use wild_value_spec::Point;
 
@@ -51,11 +50,11 @@ fn push_named<'a>(
 }
 
 /// The chunk that holds a symbol of the table: that of its row.
-pub fn symbol_chunk(rules: &Rules, rows: &[InputRow], symbol: &SymbolRow) -> Option<Chunk>
-    ensures { result ≡ symbol_chunk rules.now rows.now symbol.now }
+pub fn symbol_chunk(fates: &[Option<Chunk>], symbol: &SymbolRow) -> Option<Chunk>
+    ensures { result ≡ symbol_chunk fates.now symbol.now }
 {
-    match rows.get(symbol.row) {
-        Some(row) => rules.chunk_of(&row.section),
+    match fates.get(symbol.row) {
+        Some(fate) => *fate,
         None => None,
     }
 }
@@ -83,14 +82,13 @@ fn push_row<'a>(
 
 fn push_rows<'a>(
     entries: &mut Items<Entry<'a>>,
-    rules: &Rules,
-    rows: &[InputRow],
+    fates: &[Option<Chunk>],
     symbols: &'a [SymbolRow],
 ) -> Result<(), NoMemory>
-    ensures { OnOk result (shown_entries entries.new ≡ shown_entries entries.old ++ table_entries rules.now rows.now symbols.now) }
+    ensures { OnOk result (shown_entries entries.new ≡ shown_entries entries.old ++ table_entries fates.now symbols.now) }
 {
     for symbol in symbols {
-        push_row(entries, symbol, symbol_chunk(rules, rows, symbol))?;
+        push_row(entries, symbol, symbol_chunk(fates, symbol))?;
     }
     Ok(())
 }
@@ -169,19 +167,14 @@ fn push_all_assigned<'a>(
 /// What must not be defined twice: the symbols of the table, then the assignments. Fails where memory runs out.
 pub fn find_entries<'a>(
     alloc: Global,
-    rules: &Rules,
-    inputs: &'a InputTable,
+    fates: &[Option<Chunk>],
+    symbols: &'a [SymbolRow],
     places: &[Place<'a>],
 ) -> Result<Items<Entry<'a>>, NoMemory>
-    ensures { IfOk result (λ entries. shown_entries entries ≡ firm_entries rules.now inputs.now.rows inputs.now.symbols (shown places.now)) }
+    ensures { IfOk result (λ entries. shown_entries entries ≡ firm_entries fates.now symbols.now (shown places.now)) }
 {
     let mut entries = Items::new(alloc);
-    push_rows(
-        &mut entries,
-        rules,
-        inputs.rows.as_slice(),
-        inputs.symbols.as_slice(),
-    )?;
+    push_rows(&mut entries, fates, symbols)?;
     push_all_assigned(&mut entries, places)?;
     Ok(entries)
 }

@@ -1,25 +1,22 @@
 //! What a plan lists, once all places are laid out.
 
 ghost use Rattle.std.specs.Prelude.{◌≡◌, ◌++◌, OnOk, IfOk};
-ghost use Rattle.wild_plan_spec.specs.Layout.{row_names, table_symbol, table_symbols};
+ghost use Rattle.wild_plan_spec.specs.Layout.{placed_input, placed_inputs, row_names, table_symbol, table_symbols};
 ghost use Rattle.wild_plan.specs.Listed.{flags_by, section_by, sections_by};
 ghost use Rattle.wild_plan.specs.Pointed.{pointed};
 ghost use Rattle.wild_eval.specs.Table.{known_of};
 ghost use Rattle.wild_plan.specs.Traits.{traits_at};
-ghost use Rattle.wild_plan.specs.With.{placed_with};
 
 use crate::definitions::symbol_chunk;
-use crate::rules::Rules;
 use crate::traits::{SectionTraits, Traits};
 use bitflags::Flags;
 use sqlite_items::Items;
 use std::alloc::Global;
-use wild_base::{InputFlags, NoMemory};
+use wild_base::{InputFlags, Name, NoMemory};
 use wild_eval::Table;
 use wild_plan_spec::{
-    Chunk, InputRow, InputTable, PlacedInput, PlacedSection, PlacedSymbol, RowNames, SymbolRow,
+    Chunk, InputRow, PlacedInput, PlacedSection, PlacedSymbol, RowNames, SymbolRow,
 };
-use wild_script::Section;
 
 /// In memory, and writable or executable where a row is.
 fn flags_by(traits: Traits) -> InputFlags
@@ -41,11 +38,11 @@ fn placed_section(
     table: &Table,
     traits: Traits,
     number: usize,
-    section: &Section,
+    name: &Name,
 ) -> Result<PlacedSection, NoMemory>
-    ensures { IfOk result (λ placed. placed ≡ section_by (known_of table.now) number section.now traits) }
+    ensures { IfOk result (λ placed. placed ≡ section_by (known_of table.now) number name.now traits) }
 {
-    let name = section.output_section_name.copy(alloc)?;
+    let name = name.copy(alloc)?;
     let start = table.start(number);
     Ok(PlacedSection {
         name,
@@ -61,37 +58,46 @@ fn placed_section(
     })
 }
 
-/// The sections, numbered in their order.
+/// The sections of these names, numbered in their order.
 pub fn placed_sections(
     alloc: Global,
     table: &Table,
     traits: &SectionTraits,
-    sections: &[&Section],
+    names: &[&Name],
 ) -> Result<Items<PlacedSection>, NoMemory>
-    ensures { IfOk result (λ placed. placed ≡ sections_by (known_of table.now) (traits_at traits.now) 0 (pointed sections.now)) }
+    ensures { IfOk result (λ placed. placed ≡ sections_by (known_of table.now) (traits_at traits.now) 0 (pointed names.now)) }
 {
     let mut placed = Items::new(alloc);
-    for (i, section) in sections.iter().enumerate() {
-        placed.push(placed_section(alloc, table, traits.get(i), i, section)?)?;
+    for (i, name) in names.iter().enumerate() {
+        placed.push(placed_section(alloc, table, traits.get(i), i, name)?)?;
     }
     Ok(placed)
 }
 
-/// Where each row went, in table order, by its chunk.
+fn placed_input(table: &Table, row: usize, fate: Option<Chunk>) -> PlacedInput
+    ensures { result ≡ placed_input (known_of table.now) row fate }
+{
+    match fate {
+        None => PlacedInput::Discarded,
+        Some(chunk) => PlacedInput::Placed {
+            section: chunk.section,
+            chunk: chunk.number,
+            address: table.address(row),
+        },
+    }
+}
+
+/// Where each row went, in table order, by its fate.
 pub fn placed_inputs(
     alloc: Global,
     table: &Table,
-    chunks: &[Chunk],
+    fates: &[Option<Chunk>],
 ) -> Result<Items<PlacedInput>, NoMemory>
-    ensures { IfOk result (λ placed. placed ≡ placed_with (known_of table.now) 0 chunks.now) }
+    ensures { IfOk result (λ placed. placed ≡ placed_inputs (known_of table.now) 0 fates.now) }
 {
     let mut placed = Items::new(alloc);
-    for (i, chunk) in chunks.iter().enumerate() {
-        placed.push(PlacedInput::Placed {
-            section: chunk.section,
-            chunk: chunk.number,
-            address: table.address(i),
-        })?;
+    for (i, fate) in fates.iter().enumerate() {
+        placed.push(placed_input(table, i, *fate))?;
     }
     Ok(placed)
 }
@@ -139,25 +145,18 @@ fn push_symbol(
     Ok(())
 }
 
-/// The symbols of the table, in table order.
+/// The symbols of the table, in table order, by the fates of the rows.
 pub fn placed_symbols(
     alloc: Global,
     table: &Table,
-    rules: &Rules,
-    inputs: &InputTable,
+    fates: &[Option<Chunk>],
+    symbols: &[SymbolRow],
 ) -> Result<Items<PlacedSymbol>, NoMemory>
-    ensures { IfOk result (λ symbols. symbols ≡ table_symbols (known_of table.now) rules.now inputs.now.rows inputs.now.symbols) }
+    ensures { IfOk result (λ placed. placed ≡ table_symbols (known_of table.now) fates.now symbols.now) }
 {
-    let rows = inputs.rows.as_slice();
-    let mut symbols = Items::new(alloc);
-    for symbol in inputs.symbols.as_slice() {
-        push_symbol(
-            alloc,
-            &mut symbols,
-            table,
-            symbol,
-            symbol_chunk(rules, rows, symbol),
-        )?;
+    let mut placed = Items::new(alloc);
+    for symbol in symbols {
+        push_symbol(alloc, &mut placed, table, symbol, symbol_chunk(fates, symbol))?;
     }
-    Ok(symbols)
+    Ok(placed)
 }

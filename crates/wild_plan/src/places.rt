@@ -1,7 +1,8 @@
 //! The places of a script, as one numbered list.
 
-ghost use Rattle.std.specs.Prelude.{◌≡◌, ◌<◌, ◌+◌, ◌^◌, [], ◌∷◌, ◌++◌, OnOk, IfOk};
-ghost use Rattle.wild_plan_spec.specs.Places.{task_of, contents_places, section_places, inner_places, outer_places, statement_places, next_section, all_places};
+ghost use Rattle.std.specs.Prelude.{◌≡◌, ◌<◌, ◌+◌, ◌-◌, ◌^◌, [], ◌∷◌, ◌++◌, OnOk, IfOk};
+ghost use Rattle.wild_plan_spec.specs.Places.{task_of, contents_places, rest_chunk, section_places, inner_places, outer_places, statement_places, next_section, all_places};
+ghost use Rattle.wild_plan.specs.Orphaned.{orphan_place, orphans_from};
 ghost use Rattle.wild_plan.specs.Shown.{shown, shown_place, shown_task, shown_statement, shown_statements};
 
 use crate::statements::Statement;
@@ -40,8 +41,8 @@ pub enum Place<'a> {
     Open(usize),
     /// The rows of a chunk.
     Rows(Chunk),
-    /// The section of this number ends.
-    Close(usize),
+    /// The rest of the section of this number is placed, where it has a chunk of its own, and the section ends.
+    Close(usize, Option<Chunk>),
 }
 
 impl<'a> Place<'a> {
@@ -83,6 +84,16 @@ fn push_contents(
     Ok(())
 }
 
+// A section without matchers has a chunk of its own for what joins it by name.
+fn rest_chunk(section: usize, commands: &[ContentsCommand]) -> Option<Chunk>
+    ensures { result ≡ rest_chunk section commands.now }
+{
+    match commands {
+        [] => Some(Chunk { section, number: 0 }),
+        [ContentsCommand::Matcher(_), ..] => None,
+    }
+}
+
 fn push_section(
     places: &mut Items<Place<'_>>,
     number: usize,
@@ -91,8 +102,9 @@ fn push_section(
     ensures { OnOk result (shown places.new ≡ shown places.old ++ section_places number section.now) }
 {
     push(places, Place::Open(number))?;
-    push_contents(places, number, section.commands.as_slice())?;
-    push(places, Place::Close(number))?;
+    let commands = section.commands.as_slice();
+    push_contents(places, number, commands)?;
+    push(places, Place::Close(number, rest_chunk(number, commands)))?;
     Ok(())
 }
 
@@ -173,4 +185,28 @@ pub fn find_places<'a>(
         number = next_section(number, statement);
     }
     Ok(places)
+}
+
+// A section with one chunk.
+fn push_orphan(places: &mut Items<Place<'_>>, section: usize) -> Result<(), NoMemory>
+    ensures { OnOk result (shown places.new ≡ shown places.old ++ orphan_place section) }
+{
+    push(places, Place::Open(section))?;
+    push(places, Place::Rows(Chunk { section, number: 0 }))?;
+    push(places, Place::Close(section, None))?;
+    Ok(())
+}
+
+/// Puts orphan sections with the numbers from `first` up to `count` behind the others. Fails where memory runs out.
+pub fn push_orphans(
+    places: &mut Items<Place<'_>>,
+    first: usize,
+    count: usize,
+) -> Result<(), NoMemory>
+    ensures { OnOk result (shown places.new ≡ shown places.old ++ orphans_from first (count - first)) }
+{
+    for section in first..count {
+        push_orphan(places, section)?;
+    }
+    Ok(())
 }

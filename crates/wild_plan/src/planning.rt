@@ -1,27 +1,29 @@
 //! From the bytes of a script and a table to a plan.
 
-ghost use Rattle.std.specs.Prelude.{◌≡◌, ◌⊎◌, ◌++◌, [], ◌∷◌, OnOk, IfOk, IfErr, None, length};
+ghost use Rattle.std.specs.Prelude.{◌≡◌, ◌⊎◌, ◌++◌, IfOk, IfErr, None, length};
 ghost use Rattle.wild_base.specs.declared.fault.Fault.TheVariants as fault;
 ghost use Rattle.wild_script.specs.declared.tree.LinkerScript.{LinkerScript};
 ghost use Rattle.wild_plan_spec.specs.Checks.{row_checks, symbol_checks, checks, failing};
 ghost use Rattle.wild_plan_spec.specs.Fit.{IsThePlan, IsTheFault, Fits, LayoutFault, EndFault, FaultIn};
-ghost use Rattle.wild_plan_spec.specs.Settings.{names_of};
-ghost use Rattle.wild_plan.specs.Composed.{IsParts, IsChecked, IsEnded, IsListed};
+ghost use Rattle.wild_plan.specs.Composed.{IsParts, IsPlacedBy, IsChecked, IsEnded, IsListed};
 ghost use Rattle.wild_plan.specs.Listed.{alignments_by};
 ghost use Rattle.wild_plan.specs.Passes.{IsWanted};
 ghost use Rattle.wild_plan.specs.Pointed.{pointed};
+ghost use Rattle.wild_plan.specs.Shown.{shown};
 ghost use Rattle.wild_plan.specs.Traits.{traits_at};
 
 use crate::check::{
-    check_places, check_rows, check_symbols, find_row_chunks, number_entries, number_sections,
+    check_places, check_rows, check_support, check_symbols, number_entries, number_sections,
 };
 use crate::chunks::find_chunks;
 use crate::definitions::{find_entries, push_all_provided};
 use crate::ends::End;
+use crate::fates::{Fates, find_fates};
 use crate::listing::{placed_inputs, placed_sections, placed_symbols, row_names};
 use crate::placement::{Lists, Plan};
-use crate::places::{Place, find_places};
+use crate::places::{Place, find_places, push_orphans};
 use crate::rules::{Rules, find_rules};
+use crate::section_names::SectionNames;
 use crate::statements::{find_sections, find_statements};
 use crate::traits::{SectionTraits, find_traits};
 use crate::walk::{Given, Walk, lay_out};
@@ -29,7 +31,7 @@ use sqlite_items::Items;
 use std::alloc::Global;
 use wild_base::{Alignment, Fault, Name, NoMemory, Numbering};
 use wild_eval::{Entry, Names};
-use wild_plan_spec::{Chunk, InputTable, PlacedSymbol, PlanOptions};
+use wild_plan_spec::{Chunk, InputRow, InputTable, PlacedSymbol, PlanOptions};
 use wild_script::{LinkerScript, Section};
 
 /// What a script is taken apart into.
@@ -40,18 +42,25 @@ pub struct Parts<'a> {
     pub rules: Rules,
 }
 
+/// Where the rows of a table go.
+#[derive(Drop)]
+pub struct Placed<'a> {
+    /// The names of the sections, orphans last.
+    pub names: SectionNames<'a>,
+    /// The places of the script, and behind them those of the orphans.
+    pub places: Items<Place<'a>>,
+    /// The chunk of each row, or None where it is discarded.
+    pub fates: Items<Option<Chunk>>,
+}
+
 /// A script and a table whose checks hold.
 #[derive(Drop)]
 pub struct Checked<'a> {
-    pub parts: Parts<'a>,
-    /// The names of the sections.
-    pub section_names: Numbering,
+    pub placed: Placed<'a>,
     /// The definitions of symbols.
     pub entries: Items<Entry<'a>>,
     /// The names of the entries.
     pub symbols: Numbering,
-    /// The chunk of each row.
-    pub chunks: Items<Chunk>,
 }
 
 /// What is known behind the last place, and the symbols of the script.
@@ -85,8 +94,34 @@ fn find_parts(alloc: Global, script: &LinkerScript) -> Result<Parts<'_>, NoMemor
     })
 }
 
+// The fates of the rows, and the sections and places with those of the orphans.
+fn place_rows<'a>(
+    alloc: Global,
+    parts: Parts<'a>,
+    own: SectionNames<'a>,
+    rows: &'a [InputRow],
+) -> Result<Placed<'a>, NoMemory>
+    ensures { IfOk result (IsPlacedBy (shown parts.entry.places) parts.entry.rules own.entry rows.now) }
+{
+    let Parts {
+        mut places, rules, ..
+    } = parts;
+    let first = own.len();
+    let Fates {
+        sections,
+        fates,
+    } = find_fates(alloc, own, &rules, rows)?;
+    push_orphans(&mut places, first, sections.len())?;
+    Ok(Placed {
+        names: sections,
+        places,
+        fates,
+    })
+}
+
 /// Checks a script and its table: the table, then that the expressions are built, then the names of the sections and of
 /// the symbols, then that the rows are built.
+#[tactic(auto, using(crate::proofs::Orphans::fates_length))]
 fn check<'a>(
     alloc: Global,
     script: &'a LinkerScript,
@@ -96,52 +131,38 @@ fn check<'a>(
     ensures failing { IfErr result (IsWanted (failing (checks script.now inputs.now))) }
 {
     check_table(inputs)?;
+    let rows = inputs.rows.as_slice();
+    let symbols = inputs.symbols.as_slice();
     let parts = find_parts(alloc, script)?;
-    let places = parts.places.as_slice();
-    check_places(places)?;
-    let section_names = number_sections(alloc, parts.sections.as_slice())?;
-    let mut entries = find_entries(alloc, &parts.rules, inputs, places)?;
+    check_places(parts.places.as_slice())?;
+    let own = number_sections(alloc, parts.sections.as_slice())?;
+    let placed = place_rows(alloc, parts, own, rows)?;
+    let mut entries = find_entries(
+        alloc,
+        placed.fates.as_slice(),
+        symbols,
+        placed.places.as_slice(),
+    )?;
     let mut symbols = number_entries(alloc, entries.as_slice())?;
-    let chunks = find_row_chunks(alloc, &parts.rules, inputs.rows.as_slice())?;
-    push_all_provided(alloc, &mut entries, &mut symbols, places)?;
+    check_support(rows, placed.fates.as_slice())?;
+    push_all_provided(alloc, &mut entries, &mut symbols, placed.places.as_slice())?;
     Ok(Checked {
-        parts,
-        section_names,
+        placed,
         entries,
         symbols,
-        chunks,
     })
-}
-
-/// The names of the sections.
-#[tactic(auto, using(crate::proofs::Pointed::pointed_append))]
-fn push_name<'a>(names: &mut Items<&'a Name>, section: &'a Section) -> Result<(), NoMemory>
-    ensures { OnOk result (pointed names.new ≡ pointed names.old ++ section.now.output_section_name ∷ []) }
-{
-    names.push(&section.output_section_name)?;
-    Ok(())
-}
-
-fn section_names<'a>(alloc: Global, sections: &[&'a Section]) -> Result<Items<&'a Name>, NoMemory>
-    ensures { IfOk result (λ names. pointed names ≡ names_of (pointed sections.now)) }
-{
-    let mut names = Items::new(alloc);
-    for section in sections {
-        push_name(&mut names, section)?;
-    }
-    Ok(names)
 }
 
 /// The alignments of the sections.
 fn alignments(
     alloc: Global,
     traits: &SectionTraits,
-    sections: &[&Section],
+    names: &[&Name],
 ) -> Result<Items<Alignment>, NoMemory>
-    ensures { IfOk result (λ alignments. alignments ≡ alignments_by (traits_at traits.now) 0 (pointed sections.now)) }
+    ensures { IfOk result (λ alignments. alignments ≡ alignments_by (traits_at traits.now) 0 (pointed names.now)) }
 {
     let mut alignments = Items::new(alloc);
-    for (number, _) in sections.iter().enumerate() {
+    for (number, _) in names.iter().enumerate() {
         alignments.push(traits.get(number).alignment)?;
     }
     Ok(alignments)
@@ -154,20 +175,20 @@ fn lay_out_all(
     inputs: &InputTable,
     checked: &Checked<'_>,
 ) -> Result<Ended, Fault>
-    requires { length checked.now.chunks ≡ length inputs.now.rows }
+    requires { length checked.now.placed.fates ≡ length inputs.now.rows }
     ensures ended { IfOk result (λ ended. (t : LinkerScript) → IsChecked t inputs.now checked.now → IsEnded script.now t inputs.now ended) }
     ensures refused { IfErr result (λ f. (f ≡ fault.NoMemory) ⊎ ((t : LinkerScript) → IsChecked t inputs.now checked.now → LayoutFault script.now t inputs.now f ⊎ EndFault script.now t inputs.now f)) }
 {
     let rows = inputs.rows.as_slice();
-    let sections = checked.parts.sections.as_slice();
-    let places = checked.parts.places.as_slice();
-    let traits = find_traits(alloc, rows, checked.chunks.as_slice())?;
-    let by_chunk = find_chunks(alloc, rows, checked.chunks.as_slice())?;
-    let section_names = section_names(alloc, sections)?;
+    let fates = checked.placed.fates.as_slice();
+    let places = checked.placed.places.as_slice();
+    let sections = checked.placed.names.as_slice();
+    let traits = find_traits(alloc, rows, fates)?;
+    let by_chunk = find_chunks(alloc, rows, fates)?;
     let alignments = alignments(alloc, &traits, sections)?;
     let names = Names {
-        sections: section_names.as_slice(),
-        section_numbers: &checked.section_names,
+        sections,
+        section_numbers: checked.placed.names.numbers(),
         alignments: alignments.as_slice(),
         symbols: &checked.symbols,
         entries: checked.entries.as_slice(),
@@ -207,9 +228,10 @@ fn list_all(
         found,
     } = ended;
     let table = &walk.table;
-    let sections = placed_sections(alloc, table, &traits, checked.parts.sections.as_slice())?;
-    let placements = placed_inputs(alloc, table, checked.chunks.as_slice())?;
-    let mut symbols = placed_symbols(alloc, table, &checked.parts.rules, inputs)?;
+    let fates = checked.placed.fates.as_slice();
+    let sections = placed_sections(alloc, table, &traits, checked.placed.names.as_slice())?;
+    let placements = placed_inputs(alloc, table, fates)?;
+    let mut symbols = placed_symbols(alloc, table, fates, inputs.symbols.as_slice())?;
     symbols.append(found)?;
     let names = row_names(alloc, inputs.rows.as_slice())?;
     Ok(Lists {
@@ -222,6 +244,7 @@ fn list_all(
 }
 
 /// The lists of the plan of a script and its table.
+#[tactic(auto, using(crate::proofs::Orphans::fates_length))]
 fn script_lists(
     alloc: Global,
     script: &[u8],

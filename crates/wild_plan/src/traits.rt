@@ -1,9 +1,8 @@
 //! What the rows of a section say of it.
 
 ghost use Rattle.std.specs.Prelude.{◌≡◌, ℕ, [], ◌∷◌, OnOk, IfOk, ◌==◌, if◌then◌else◌, slice_get, length, Some, ◌<◌};
-ghost use Rattle.wild_plan_spec.specs.Chunks.{alignment_of};
+ghost use Rattle.wild_plan_spec.specs.Chunks.{alignment_of, is_in, section_rows};
 ghost use Rattle.wild_plan.specs.Traits.{traits_of, traits_at, joined};
-ghost use Rattle.wild_plan.specs.With.{section_rows_with};
 
 use bitflags::Flags;
 use std::alloc::Global;
@@ -78,6 +77,16 @@ impl SectionTraits {
         self.by_section.insert(section, traits)?;
         Ok(())
     }
+
+    /// One more row, in the section of its chunk, where it has one.
+    fn note_kept(&mut self, fate: Option<Chunk>, row: &InputRow) -> Result<(), NoMemory>
+        ensures { OnOk result ((s : ℕ) → traits_at self.new s ≡ (if is_in s fate then joined (traits_at self.old s) (traits_of (row.now ∷ [])) else traits_at self.old s)) }
+    {
+        match fate {
+            Some(chunk) => self.note(chunk.section, row),
+            None => Ok(()),
+        }
+    }
 }
 
 /// The traits of a section without rows.
@@ -87,25 +96,25 @@ pub const NONE: Traits = Traits {
     exec: false,
 };
 
-fn chunk_at(chunks: &[Chunk], index: usize) -> Chunk
-    requires { index < length chunks.now }
-    ensures { slice_get chunks.now index ≡ Some result }
+fn fate_at(fates: &[Option<Chunk>], index: usize) -> Option<Chunk>
+    requires { index < length fates.now }
+    ensures { slice_get fates.now index ≡ Some result }
 {
-    chunks[index]
+    fates[index]
 }
 
-/// The traits of all sections, by the rows and the chunk of each. Fails where memory runs out.
+/// The traits of all sections, by the rows and the fate of each. Fails where memory runs out.
 pub fn find_traits(
     alloc: Global,
     rows: &[InputRow],
-    chunks: &[Chunk],
+    fates: &[Option<Chunk>],
 ) -> Result<SectionTraits, NoMemory>
-    requires { length chunks.now ≡ length rows.now }
-    ensures { IfOk result (λ traits. (s : ℕ) → traits_at traits s ≡ traits_of (section_rows_with s rows.now chunks.now)) }
+    requires { length fates.now ≡ length rows.now }
+    ensures { IfOk result (λ traits. (s : ℕ) → traits_at traits s ≡ traits_of (section_rows s rows.now fates.now)) }
 {
     let mut traits = SectionTraits::new(alloc);
     for (index, row) in rows.iter().enumerate() {
-        traits.note(chunk_at(chunks, index).section, row)?;
+        traits.note_kept(fate_at(fates, index), row)?;
     }
     Ok(traits)
 }

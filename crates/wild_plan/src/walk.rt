@@ -6,7 +6,7 @@ ghost use Rattle.wild_value_spec.specs.Answer.{Returns};
 ghost use Rattle.wild_value_spec.specs.Value.{sum_of};
 ghost use Rattle.wild_eval.specs.Setting.{setting_of};
 ghost use Rattle.wild_plan_spec.specs.Chunks.{largest};
-ghost use Rattle.wild_plan_spec.specs.Line.{first_state, up, opened, row_placed, rows_placed, chunk_placed, ended, closed, location_set, passed, line};
+ghost use Rattle.wild_plan_spec.specs.Line.{first_state, up, opened, row_placed, rows_placed, chunk_placed, ended, ended_alone, ended_behind, closed, location_set, passed, line};
 ghost use Rattle.wild_plan_spec.specs.Walk.{Stands, Refuses};
 ghost use Rattle.wild_plan.specs.Chunks.{rows_at};
 ghost use Rattle.wild_plan.specs.Moves.{Moves, state_of};
@@ -20,7 +20,7 @@ use sqlite_items::Items;
 use std::alloc::Global;
 use wild_base::{Alignment, Fault, Name, NoMemory, alignment};
 use wild_eval::{Names, Path, Reader, Table};
-use wild_plan_spec::{ChunkRow, PlacedLocation};
+use wild_plan_spec::{Chunk, ChunkRow, PlacedLocation};
 use wild_script::Expression;
 
 /// What stands before a place.
@@ -139,14 +139,43 @@ impl Walk {
         Ok(())
     }
 
-    #[tactic(auto, unfolding(wild_plan_spec::specs::Line::closed))]
-    fn close(&mut self, alloc: Global, names: &Names<'_>, section: usize) -> Result<(), Fault>
-        ensures { Moves result self.new (closed (setting_of names.now) section (state_of self.old)) }
+    #[tactic(auto, unfolding(wild_plan_spec::specs::Line::ended_alone))]
+    fn end_alone(&mut self, alloc: Global, names: &Names<'_>, section: usize) -> Result<(), Fault>
+        ensures { Moves result self.new (ended_alone (setting_of names.now) section (state_of self.old)) }
     {
         let start = self.table.start(section);
         match sharing(&self.table, start, self.cursor, section) {
             None => self.end(section),
             Some(other) => Err(overlap(alloc, names, other, section)?),
+        }
+    }
+
+    // The rows of the rest are placed, and the section ends.
+    #[tactic(auto, unfolding(wild_plan_spec::specs::Line::ended_behind))]
+    fn end_behind(
+        &mut self,
+        given: &Given<'_>,
+        rest: &[ChunkRow],
+        section: usize,
+    ) -> Result<(), Fault>
+        ensures { Moves result self.new (ended_behind (setting_of given.now.names.now) rest.now section (state_of self.old)) }
+    {
+        self.place_chunk(rest)?;
+        self.end_alone(given.alloc, given.names, section)
+    }
+
+    #[tactic(auto, unfolding(wild_plan_spec::specs::Line::closed))]
+    fn close(
+        &mut self,
+        given: &Given<'_>,
+        section: usize,
+        rest: Option<Chunk>,
+    ) -> Result<(), Fault>
+        ensures { Moves result self.new (closed (setting_of given.now.names.now) (rows_at given.now.chunks.now) section rest (state_of self.old)) }
+    {
+        match rest {
+            None => self.end_alone(given.alloc, given.names, section),
+            Some(chunk) => self.end_behind(given, given.chunks.rows(chunk), section),
         }
     }
 
@@ -197,7 +226,7 @@ impl Walk {
             Place::Outside(_) => self.pass(number, 0),
             Place::Open(section) => self.open(section, given.names.alignment(section)),
             Place::Rows(chunk) => self.place_chunk(given.chunks.rows(chunk)),
-            Place::Close(section) => self.close(given.alloc, given.names, section),
+            Place::Close(section, rest) => self.close(given, section, rest),
         }
     }
 }

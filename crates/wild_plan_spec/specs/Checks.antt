@@ -3,21 +3,21 @@ use Rattle.std.specs.Prelude.{ℕ, ◌+◌, Bool, true, false, not, ◌&&◌, na
 use Rattle.std.specs.Option.{option_map, is_some}
 use Rattle.std.specs.List.{find, list_any}
 use Rattle.wild_base.specs.Alignment.{exponent_of}
-use Rattle.wild_base.specs.InputFlags.{is_alloc, is_nobits, is_tls, is_exclude}
+use Rattle.wild_base.specs.InputFlags.{is_alloc, is_nobits, is_tls}
 use Rattle.wild_base.specs.Numbering.{is_named}
 use Rattle.wild_base.specs.declared.fault.Fault.{Fault}
 use Rattle.wild_base.specs.declared.fault.Fault.TheVariants.{BadRow, BadSymbolRow, DuplicateSection, DuplicateSymbol, Unsupported}
 use Rattle.wild_base.specs.declared.input_flags.InputFlags.{InputFlags}
 use Rattle.wild_script.specs.declared.tree.LinkerScript.{LinkerScript}
+use Rattle.wild_plan_spec.specs.declared.chunk.Chunk.{Chunk}
 use Rattle.wild_plan_spec.specs.declared.row.InputRow.{InputRow}
 use Rattle.wild_plan_spec.specs.declared.row.InputTable.{InputTable}
 use Rattle.wild_plan_spec.specs.declared.row.SymbolRow.{SymbolRow}
 use Rattle.wild_plan_spec.specs.Names.{Name}
 use Rattle.wild_plan_spec.specs.Built.{is_built}
 use Rattle.wild_plan_spec.specs.Definitions.{entry_names, firm_entries}
-use Rattle.wild_plan_spec.specs.Places.{Place, SetLocation, Task, Assign, Provide, Locate, Check as Condition, task_of, places_of}
-use Rattle.wild_plan_spec.specs.Rules.{Rule, rules_of, chunk_of}
-use Rattle.wild_plan_spec.specs.Settings.{names_of}
+use Rattle.wild_plan_spec.specs.Fates.{names_of, fates_of}
+use Rattle.wild_plan_spec.specs.Places.{Place, SetLocation, Task, Assign, Provide, Locate, Check as Condition, task_of, script_places, places_of}
 use Rattle.wild_plan_spec.specs.Statements.{sections_of}
 
 -- a condition, and the fault that stands for its failure
@@ -62,21 +62,26 @@ abbrev pub name_checks : (Name → Fault) → List Name → List Name → List C
 name_checks fault earlier [] = []
 name_checks fault earlier (x ∷ xs) = record { holds = not (list_any (is_named x) earlier); fault = fault x } ∷ name_checks fault (earlier ++ x ∷ []) xs
 
--- it is in memory, and nothing else is said of it that is not built yet
+-- it is in memory, and nothing is said of it that is not built yet
 abbrev pub is_plain : InputFlags → Bool
-is_plain flags = is_alloc flags && not (is_nobits flags) && not (is_tls flags) && not (is_exclude flags)
+is_plain flags = is_alloc flags && not (is_nobits flags) && not (is_tls flags)
 
--- each row has a chunk, and flags that are built
-abbrev pub support_checks : List Rule → ℕ → List InputRow → List Check
-support_checks rules n [] = []
-support_checks rules n (row ∷ rows) = record { holds = is_some (chunk_of rules row.«section») && is_plain row.flags; fault = Unsupported n } ∷ support_checks rules (n + 1) rows
+abbrev pub is_supported : Option Chunk → InputFlags → Bool
+is_supported None flags = true
+is_supported (Some chunk) flags = is_plain flags
+
+-- each row that is kept has flags that are built
+abbrev pub support_checks : ℕ → List InputRow → List (Option Chunk) → List Check
+support_checks n [] fates = []
+support_checks n (row ∷ rows) [] = []
+support_checks n (row ∷ rows) (fate ∷ fates) = record { holds = is_supported fate row.flags; fault = Unsupported n } ∷ support_checks (n + 1) rows fates
 
 -- the conditions, in the order in which they are looked at
 abbrev pub checks : LinkerScript → InputTable → List Check
-checks t inputs = row_checks 0 inputs.rows ++ symbol_checks inputs.rows 0 inputs.symbols ++ place_checks 0 (places_of t)
+checks t inputs = row_checks 0 inputs.rows ++ symbol_checks inputs.rows 0 inputs.symbols ++ place_checks 0 (script_places t)
     ++ name_checks DuplicateSection [] (names_of (sections_of t))
-    ++ name_checks DuplicateSymbol [] (entry_names (firm_entries (rules_of t) inputs.rows inputs.symbols (places_of t)))
-    ++ support_checks (rules_of t) 0 inputs.rows
+    ++ name_checks DuplicateSymbol [] (entry_names (firm_entries (fates_of t inputs) inputs.symbols (places_of t inputs)))
+    ++ support_checks 0 inputs.rows (fates_of t inputs)
 
 -- the fault of the first condition that fails
 abbrev pub failing : List Check → Option Fault

@@ -1,4 +1,4 @@
--- The rows of chunks and of sections.
+-- The rows of chunks and of sections. Each row stands beside its fate: its chunk, or None where it is discarded.
 use Rattle.std.specs.Prelude.{ℕ, ◌+◌, ◌==◌, ◌&&◌, Bool, false, List, [], ◌∷◌, Option, Some, None, if◌then◌else◌, max}
 use Rattle.std.specs.Option.{unwrap_or}
 use Rattle.std.specs.List.{cons_option, filter}
@@ -6,7 +6,6 @@ use Rattle.wild_base.specs.Alignment.{exponent_of}
 use Rattle.wild_plan_spec.specs.declared.chunk.Chunk.{Chunk}
 use Rattle.wild_plan_spec.specs.declared.chunk.ChunkRow.{ChunkRow}
 use Rattle.wild_plan_spec.specs.declared.row.InputRow.{InputRow}
-use Rattle.wild_plan_spec.specs.Rules.{Rule, chunk_of}
 
 abbrev pub same_chunk : Chunk → Chunk → Bool
 same_chunk a b = (a.«section» == b.«section») && (a.number == b.number)
@@ -23,16 +22,17 @@ kept_row n row None = None
 kept_row n row (Some chunk) = Some (record { alignment = record { 0 = alignment_of row }; row = n; size = row.size; chunk = chunk })
 
 -- the rows that have a chunk, in table order; the first row of the list has the number n
-abbrev pub kept_rows : List Rule → ℕ → List InputRow → List ChunkRow
-kept_rows rules n [] = []
-kept_rows rules n (row ∷ rows) = cons_option (kept_row n row (chunk_of rules row.«section»)) (kept_rows rules (n + 1) rows)
+abbrev pub kept_rows : ℕ → List InputRow → List (Option Chunk) → List ChunkRow
+kept_rows n [] fates = []
+kept_rows n (row ∷ rows) [] = []
+kept_rows n (row ∷ rows) (fate ∷ fates) = cons_option (kept_row n row fate) (kept_rows (n + 1) rows fates)
 
 abbrev pub is_of : Chunk → ChunkRow → Bool
 is_of q row = same_chunk row.chunk q
 
 -- the rows whose chunk is q, in table order
-abbrev pub rows_in : List Rule → Chunk → List InputRow → List ChunkRow
-rows_in rules q rows = filter (is_of q) (kept_rows rules 0 rows)
+abbrev pub rows_in : Chunk → List InputRow → List (Option Chunk) → List ChunkRow
+rows_in q rows fates = filter (is_of q) (kept_rows 0 rows fates)
 
 -- the largest alignment of the rows, or 0: exponents
 abbrev pub largest : List ChunkRow → ℕ
@@ -46,9 +46,10 @@ is_in s None = false
 is_in s (Some chunk) = chunk.«section» == s
 
 -- the rows whose section is s, in table order
-abbrev pub section_rows : List Rule → ℕ → List InputRow → List InputRow
-section_rows rules s [] = []
-section_rows rules s (row ∷ rows) = if is_in s (chunk_of rules row.«section») then row ∷ section_rows rules s rows else section_rows rules s rows
+abbrev pub section_rows : ℕ → List InputRow → List (Option Chunk) → List InputRow
+section_rows s [] fates = []
+section_rows s (row ∷ rows) [] = []
+section_rows s (row ∷ rows) (fate ∷ fates) = if is_in s fate then row ∷ section_rows s rows fates else section_rows s rows fates
 
 -- the largest alignment of the rows, or 0: exponents
 abbrev pub largest_alignment : List InputRow → ℕ

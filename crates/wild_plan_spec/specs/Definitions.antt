@@ -5,11 +5,9 @@ use Rattle.wild_script.specs.declared.tree.ProvideSymbolDefinition.{ProvideSymbo
 use Rattle.wild_value_spec.specs.declared.value.Point.{Point}
 use Rattle.wild_value_spec.specs.Setting.{Definition, OfRow, OfScript}
 use Rattle.wild_plan_spec.specs.declared.chunk.Chunk.{Chunk}
-use Rattle.wild_plan_spec.specs.declared.row.InputRow.{InputRow}
 use Rattle.wild_plan_spec.specs.declared.row.SymbolRow.{SymbolRow}
 use Rattle.wild_plan_spec.specs.Names.{Name}
 use Rattle.wild_plan_spec.specs.Places.{Place, Task, Assign, Provide, task_of}
-use Rattle.wild_plan_spec.specs.Rules.{Rule, chunk_of}
 
 -- a name, and what it is defined as
 pub record Entry : Type 0 where
@@ -23,23 +21,23 @@ entry_of (b ∷ bs) d = record { name = b ∷ bs; definition = d } ∷ []
 
 -- ---- symbols of the table
 
--- the chunk of a row, where there is a row and it has one
-abbrev pub row_chunk : List Rule → Option InputRow → Option Chunk
-row_chunk rules None = None
-row_chunk rules (Some row) = chunk_of rules row.«section»
+-- the fate of a row, where there is one
+abbrev pub row_fate : Option (Option Chunk) → Option Chunk
+row_fate None = None
+row_fate (Some fate) = fate
 
 -- the chunk that holds a symbol: that of its row
-abbrev pub symbol_chunk : List Rule → List InputRow → SymbolRow → Option Chunk
-symbol_chunk rules rows symbol = row_chunk rules (slice_get rows symbol.row)
+abbrev pub symbol_chunk : List (Option Chunk) → SymbolRow → Option Chunk
+symbol_chunk fates symbol = row_fate (slice_get fates symbol.row)
 
 abbrev pub table_entry : SymbolRow → Option Chunk → List Entry
 table_entry symbol None = []
 table_entry symbol (Some chunk) = entry_of symbol.name (OfRow symbol.row symbol.offset chunk.«section»)
 
 -- in table order
-abbrev pub table_entries : List Rule → List InputRow → List SymbolRow → List Entry
-table_entries rules rows [] = []
-table_entries rules rows (s ∷ ss) = table_entry s (symbol_chunk rules rows s) ++ table_entries rules rows ss
+abbrev pub table_entries : List (Option Chunk) → List SymbolRow → List Entry
+table_entries fates [] = []
+table_entries fates (s ∷ ss) = table_entry s (symbol_chunk fates s) ++ table_entries fates ss
 
 -- ---- symbols of the script
 
@@ -71,12 +69,12 @@ provided_entries i (p ∷ ps) = provided_by i (task_of p) ++ provided_entries (i
 -- ---- the definition that counts
 
 -- what must not be defined twice
-abbrev pub firm_entries : List Rule → List InputRow → List SymbolRow → List Place → List Entry
-firm_entries rules rows symbols ps = table_entries rules rows symbols ++ assigned_entries 0 ps
+abbrev pub firm_entries : List (Option Chunk) → List SymbolRow → List Place → List Entry
+firm_entries fates symbols ps = table_entries fates symbols ++ assigned_entries 0 ps
 
 -- all entries, those of PROVIDE last
-abbrev pub all_entries : List Rule → List InputRow → List SymbolRow → List Place → List Entry
-all_entries rules rows symbols ps = firm_entries rules rows symbols ps ++ provided_entries 0 ps
+abbrev pub all_entries : List (Option Chunk) → List SymbolRow → List Place → List Entry
+all_entries fates symbols ps = firm_entries fates symbols ps ++ provided_entries 0 ps
 
 abbrev pub entry_names : List Entry → List Name
 entry_names [] = []

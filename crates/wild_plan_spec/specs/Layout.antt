@@ -4,7 +4,6 @@ use Rattle.std.specs.List.{list_any}
 use Rattle.wild_base.specs.InputFlags.{is_write, is_exec}
 use Rattle.wild_base.specs.declared.input_flags.InputFlags.{InputFlags}
 use Rattle.wild_script.specs.declared.tree.LinkerScript.{LinkerScript}
-use Rattle.wild_script.specs.declared.tree.Section.{Section}
 use Rattle.wild_plan_spec.specs.declared.chunk.Chunk.{Chunk}
 use Rattle.wild_plan_spec.specs.declared.row.InputRow.{InputRow}
 use Rattle.wild_plan_spec.specs.declared.row.InputTable.{InputTable}
@@ -16,8 +15,8 @@ use Rattle.wild_plan_spec.specs.declared.placed.PlacedInput.TheVariants.{Discard
 use Rattle.wild_plan_spec.specs.declared.placed.PlacedSymbol.{PlacedSymbol}
 use Rattle.wild_plan_spec.specs.declared.placed.RowNames.{RowNames}
 use Rattle.wild_plan_spec.specs.Definitions.{symbol_chunk}
-use Rattle.wild_plan_spec.specs.Rules.{Rule, rules_of, chunk_of}
-use Rattle.wild_plan_spec.specs.Statements.{sections_of}
+use Rattle.wild_plan_spec.specs.Fates.{section_names, fates_of}
+use Rattle.wild_plan_spec.specs.Names.{Name}
 use Rattle.wild_plan_spec.specs.Chunks.{section_rows, largest_alignment}
 use Rattle.wild_value_spec.specs.Known.{Known, Start, Load, End, Address, number_at}
 use Rattle.wild_plan_spec.specs.Line.{State}
@@ -39,10 +38,10 @@ pub record Layout : Type 0 where
 abbrev pub flags_of : List InputRow → InputFlags
 flags_of rows = record { 0 = 1 + (if list_any (λ row. is_write row.flags) rows then 2 else 0) + (if list_any (λ row. is_exec row.flags) rows then 4 else 0) }
 
--- section s, with these rows
-abbrev pub placed_section : Known → ℕ → Section → List InputRow → PlacedSection
+-- section s, of this name, with these rows
+abbrev pub placed_section : Known → ℕ → Name → List InputRow → PlacedSection
 placed_section known s x rows = record {
-  name = x.output_section_name;
+  name = x;
   start = number_at known (Start s);
   load = number_at known (Load s);
   size = number_at known (End s) - number_at known (Start s);
@@ -55,9 +54,9 @@ placed_section known s x rows = record {
 }
 
 -- the first section of the list has the number s
-abbrev pub placed_sections : Known → List Rule → List InputRow → ℕ → List Section → List PlacedSection
-placed_sections known rules rows s [] = []
-placed_sections known rules rows s (x ∷ xs) = placed_section known s x (section_rows rules s rows) ∷ placed_sections known rules rows (s + 1) xs
+abbrev pub placed_sections : Known → List InputRow → List (Option Chunk) → ℕ → List Name → List PlacedSection
+placed_sections known rows fates s [] = []
+placed_sections known rows fates s (x ∷ xs) = placed_section known s x (section_rows s rows fates) ∷ placed_sections known rows fates (s + 1) xs
 
 -- row n, in its chunk
 abbrev pub placed_input : Known → ℕ → Option Chunk → PlacedInput
@@ -65,9 +64,9 @@ placed_input known n None = Discarded
 placed_input known n (Some chunk) = Placed chunk.«section» chunk.number (number_at known (Address n))
 
 -- the first row of the list has the number n
-abbrev pub placed_inputs : Known → List Rule → ℕ → List InputRow → List PlacedInput
-placed_inputs known rules n [] = []
-placed_inputs known rules n (row ∷ rows) = placed_input known n (chunk_of rules row.«section») ∷ placed_inputs known rules (n + 1) rows
+abbrev pub placed_inputs : Known → ℕ → List (Option Chunk) → List PlacedInput
+placed_inputs known n [] = []
+placed_inputs known n (fate ∷ fates) = placed_input known n fate ∷ placed_inputs known (n + 1) fates
 
 abbrev pub row_names : List InputRow → List RowNames
 row_names [] = []
@@ -79,17 +78,17 @@ table_symbol known s None = []
 table_symbol known s (Some chunk) = record { name = s.name; address = (number_at known (Address s.row) + s.offset) % 2 ^ 64; «section» = Some chunk.«section»; hidden = false } ∷ []
 
 -- in table order
-abbrev pub table_symbols : Known → List Rule → List InputRow → List SymbolRow → List PlacedSymbol
-table_symbols known rules rows [] = []
-table_symbols known rules rows (s ∷ ss) = table_symbol known s (symbol_chunk rules rows s) ++ table_symbols known rules rows ss
+abbrev pub table_symbols : Known → List (Option Chunk) → List SymbolRow → List PlacedSymbol
+table_symbols known fates [] = []
+table_symbols known fates (s ∷ ss) = table_symbol known s (symbol_chunk fates s) ++ table_symbols known fates ss
 
 -- what is listed of a script and its table where this stands behind the last place, and these are the symbols of the script
 abbrev pub layout : LinkerScript → InputTable → State → List PlacedSymbol → Layout
 layout t inputs state found = record {
   script = t;
-  sections = placed_sections state.known (rules_of t) inputs.rows 0 (sections_of t);
-  placements = placed_inputs state.known (rules_of t) 0 inputs.rows;
+  sections = placed_sections state.known inputs.rows (fates_of t inputs) 0 (section_names t inputs);
+  placements = placed_inputs state.known 0 (fates_of t inputs);
   locations = state.locations;
-  symbols = table_symbols state.known (rules_of t) inputs.rows inputs.symbols ++ found;
+  symbols = table_symbols state.known (fates_of t inputs) inputs.symbols ++ found;
   names = row_names inputs.rows;
 }

@@ -1,6 +1,7 @@
 pub mod Names
 pub mod Statements
 pub mod Rules
+pub mod Fates
 pub mod Chunks
 pub mod Order
 pub mod Built

@@ -93,8 +93,17 @@ module _ (setting : Setting) where
   closed_by s (Some other) st = Err (Overlap (setting.section_name other) (setting.section_name s))
 
   -- a section ends, unless it shares an address with an earlier one
-  unfoldable pub closed : ℕ → State → Result State Fault
-  closed s st = closed_by s (sharing st.known (number_at st.known (Start s)) st.cursor s) st
+  unfoldable pub ended_alone : ℕ → State → Result State Fault
+  ended_alone s st = closed_by s (sharing st.known (number_at st.known (Start s)) st.cursor s) st
+
+  -- the rows of the rest are placed, and the section ends
+  unfoldable pub ended_behind : List ChunkRow → ℕ → State → Result State Fault
+  ended_behind rest s st = chunk_placed rest st >>= ended_alone s
+
+  -- a section ends, behind its rest, if it has one
+  unfoldable pub closed : (Chunk → List ChunkRow) → ℕ → Option Chunk → State → Result State Fault
+  closed rows s None st = ended_alone s st
+  closed rows s (Some q) st = ended_behind (rows q) s st
 
   -- ---- locations
 
@@ -112,4 +121,4 @@ module _ (setting : Setting) where
   line rows i (Outside task) st = passed i 0 st
   line rows i (Open s) st = opened s (setting.alignment s) st
   line rows i (Rows q) st = chunk_placed (rows q) st
-  line rows i (Close s) st = closed s st
+  line rows i (Close s rest) st = closed rows s rest st

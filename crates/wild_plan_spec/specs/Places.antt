@@ -1,5 +1,5 @@
 -- The places of a script, as one numbered list.
-use Rattle.std.specs.Prelude.{ℕ, ◌+◌, List, [], ◌∷◌, ◌++◌, Option, Some, None}
+use Rattle.std.specs.Prelude.{ℕ, ◌+◌, List, [], ◌∷◌, ◌++◌, length, Option, Some, None}
 use Rattle.wild_expression_tree.specs.declared.tree.AssertCommand.{AssertCommand}
 use Rattle.wild_expression_tree.specs.declared.tree.Expression.{Expression}
 use Rattle.wild_script.specs.declared.tree.LinkerScript.{LinkerScript}
@@ -13,7 +13,9 @@ use Rattle.wild_script.specs.declared.tree.ContentsCommand.{ContentsCommand}
 use Rattle.wild_script.specs.declared.tree.ContentsCommand.TheVariants.{Matcher}
 use Rattle.wild_plan_spec.specs.declared.chunk.Chunk.{Chunk}
 use Rattle.wild_plan_spec.specs.Names.{Name}
-use Rattle.wild_plan_spec.specs.Statements.{Statement, Inner, Outer, statements_of}
+use Rattle.wild_plan_spec.specs.declared.row.InputTable.{InputTable}
+use Rattle.wild_plan_spec.specs.Fates.{orphans_of}
+use Rattle.wild_plan_spec.specs.Statements.{Statement, Inner, Outer, statements_of, sections_of}
 
 -- what is evaluated once all places are laid out
 pub data Task : Type 0 where
@@ -37,8 +39,8 @@ pub data Place : Type 0 where
   Open : ℕ → Place
   -- the rows of a chunk
   Rows : Chunk → Place
-  -- the section of this number ends
-  Close : ℕ → Place
+  -- the rest of the section of this number is placed, where it has a chunk of its own, and the section ends
+  Close : ℕ → Option Chunk → Place
 
 -- the task of a place
 abbrev pub task_of : Place → Option Task
@@ -51,8 +53,13 @@ abbrev pub contents_places : ℕ → ℕ → List ContentsCommand → List Place
 contents_places s number [] = []
 contents_places s number (Matcher m ∷ cs) = Rows (record { «section» = s; number = number }) ∷ contents_places s (number + 1) cs
 
+-- a section without matchers has a chunk of its own for what joins it by name
+abbrev pub rest_chunk : ℕ → List ContentsCommand → Option Chunk
+rest_chunk s [] = Some (record { «section» = s; number = 0 })
+rest_chunk s (Matcher m ∷ cs) = None
+
 abbrev pub section_places : ℕ → Section → List Place
-section_places s x = Open s ∷ (contents_places s 0 x.commands ++ Close s ∷ [])
+section_places s x = Open s ∷ (contents_places s 0 x.commands ++ Close s (rest_chunk s x.commands) ∷ [])
 
 -- a statement in SECTIONS, whose section, if it is one, has the number s
 abbrev pub inner_places : ℕ → SectionCommand → List Place
@@ -85,5 +92,14 @@ all_places s [] = []
 all_places s (st ∷ sts) = statement_places s st ++ all_places (next_section s st) sts
 
 -- in text order
-abbrev pub places_of : LinkerScript → List Place
-places_of t = all_places 0 (statements_of t)
+abbrev pub script_places : LinkerScript → List Place
+script_places t = all_places 0 (statements_of t)
+
+-- orphan sections, each with one chunk; the first has the number s
+abbrev pub orphan_places : ℕ → List Name → List Place
+orphan_places s [] = []
+orphan_places s (x ∷ xs) = Open s ∷ Rows (record { «section» = s; number = 0 }) ∷ Close s None ∷ orphan_places (s + 1) xs
+
+-- those of the script, and behind them those of the orphans
+abbrev pub places_of : LinkerScript → InputTable → List Place
+places_of t inputs = script_places t ++ orphan_places (length (sections_of t)) (orphans_of t inputs)

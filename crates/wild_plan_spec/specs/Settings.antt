@@ -4,25 +4,20 @@ use Rattle.std.specs.Option.{unwrap_or}
 use Rattle.wild_base.specs.Numbering.{number_of}
 use Rattle.wild_script.specs.Tree.{Bytes}
 use Rattle.wild_script.specs.declared.tree.LinkerScript.{LinkerScript}
-use Rattle.wild_script.specs.declared.tree.Section.{Section}
 use Rattle.wild_value_spec.specs.Setting.{Setting, line_of}
+use Rattle.wild_plan_spec.specs.declared.chunk.Chunk.{Chunk}
 use Rattle.wild_plan_spec.specs.declared.row.InputRow.{InputRow}
 use Rattle.wild_plan_spec.specs.declared.row.InputTable.{InputTable}
 use Rattle.wild_plan_spec.specs.Chunks.{section_rows, largest_alignment}
 use Rattle.wild_plan_spec.specs.Definitions.{Entry, definition_in, all_entries}
+use Rattle.wild_plan_spec.specs.Fates.{section_names, fates_of}
 use Rattle.wild_plan_spec.specs.Names.{Name}
 use Rattle.wild_plan_spec.specs.Places.{places_of}
-use Rattle.wild_plan_spec.specs.Rules.{Rule, rules_of}
-use Rattle.wild_plan_spec.specs.Statements.{sections_of}
-
-abbrev pub names_of : List Section → List Name
-names_of [] = []
-names_of (s ∷ ss) = s.output_section_name ∷ names_of ss
 
 -- the largest alignment of each section's rows, as exponents; the first section of the list has the number s
-abbrev pub alignments_of : List Rule → List InputRow → ℕ → List Section → List ℕ
-alignments_of rules rows s [] = []
-alignments_of rules rows s (x ∷ xs) = largest_alignment (section_rows rules s rows) ∷ alignments_of rules rows (s + 1) xs
+abbrev pub alignments_of : List InputRow → List (Option Chunk) → ℕ → List Name → List ℕ
+alignments_of rows fates s [] = []
+alignments_of rows fates s (x ∷ xs) = largest_alignment (section_rows s rows fates) ∷ alignments_of rows fates (s + 1) xs
 
 abbrev pub or_empty : Option Name → Name
 or_empty (Some name) = name
@@ -41,7 +36,7 @@ setting_with names alignments entries script = record {
 -- what the bytes of a script, its tree and a table say
 abbrev pub setting_of : Bytes → LinkerScript → InputTable → Setting
 setting_of script t inputs = setting_with
-    (names_of (sections_of t))
-    (alignments_of (rules_of t) inputs.rows 0 (sections_of t))
-    (all_entries (rules_of t) inputs.rows inputs.symbols (places_of t))
+    (section_names t inputs)
+    (alignments_of inputs.rows (fates_of t inputs) 0 (section_names t inputs))
+    (all_entries (fates_of t inputs) inputs.symbols (places_of t inputs))
     script

@@ -21,3 +21,13 @@ pub struct ChunkRow {
     /// The chunk that holds it.
     pub chunk: Chunk,
 }
+
+/// What is decided of a row without the names of the sections.
+#[derive(Clone, Copy, Debug, PartialEq, Eq)]
+pub enum Decision {
+    Discard,
+    /// A rule takes it to this chunk.
+    Keep(Chunk),
+    /// It goes to the section of its own name.
+    ByName,
+}

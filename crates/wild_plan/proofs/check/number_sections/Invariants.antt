@@ -1,7 +1,7 @@
 use Rattle.std.proofs.Common.{◌≡◌, ◌++◌, [], drop}
 use Rattle.wild_base.specs.declared.fault.Fault.TheVariants.{DuplicateSection}
 use Rattle.wild_plan_spec.specs.Checks.{name_checks, failing}
-use Rattle.wild_plan_spec.specs.Settings.{names_of}
+use Rattle.wild_plan_spec.specs.Fates.{names_of}
 use Rattle.wild_plan.specs.Pointed.{pointed}
 use Rattle.wild_plan.proofs.check.number_sections.Given as goal
 

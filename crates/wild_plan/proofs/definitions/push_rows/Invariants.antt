@@ -4,4 +4,4 @@ use Rattle.wild_plan.specs.Entries.{shown_entries}
 use Rattle.wild_plan.proofs.definitions.push_rows.Given as goal
 
 abbrev pub invariant-loop-symbol : goal.invariant-loop-symbol
-invariant-loop-symbol l = shown_entries l.entries ++ table_entries l.rules l.rows (drop l.symbol-index l.symbols) ≡ shown_entries l.fn.entries ++ table_entries l.rules l.rows l.symbols
+invariant-loop-symbol l = shown_entries l.entries ++ table_entries l.fates (drop l.symbol-index l.symbols) ≡ shown_entries l.fn.entries ++ table_entries l.fates l.symbols

@@ -6,4 +6,4 @@ use Rattle.wild_plan.specs.Traits.{traits_at}
 use Rattle.wild_plan.proofs.listing.placed_sections.Given as goal
 
 abbrev pub invariant-loop-i : goal.invariant-loop-i
-invariant-loop-i l = l.placed ++ sections_by (known_of l.table) (traits_at l.traits) l.i (pointed (drop l.i l.sections)) ≡ sections_by (known_of l.table) (traits_at l.traits) 0 (pointed l.sections)
+invariant-loop-i l = l.placed ++ sections_by (known_of l.table) (traits_at l.traits) l.i (pointed (drop l.i l.names)) ≡ sections_by (known_of l.table) (traits_at l.traits) 0 (pointed l.names)

@@ -4,4 +4,4 @@ use Rattle.wild_plan_spec.specs.Layout.{table_symbols}
 use Rattle.wild_plan.proofs.listing.placed_symbols.Given as goal
 
 abbrev pub invariant-loop-symbol : goal.invariant-loop-symbol
-invariant-loop-symbol l = l.symbols ++ table_symbols (known_of l.table) l.rules l.inputs.rows (drop l.symbol-index l.inputs.symbols) ≡ table_symbols (known_of l.table) l.rules l.inputs.rows l.inputs.symbols
+invariant-loop-symbol l = l.placed ++ table_symbols (known_of l.table) l.fates (drop l.symbol-index l.symbols) ≡ table_symbols (known_of l.table) l.fates l.symbols

@@ -1,12 +1,12 @@
 use Rattle.std.proofs.Common.{inr, sym, ◌∙◌, ap, Err}
 use Rattle.wild_eval.specs.Setting.{setting_of}
 use Rattle.wild_eval.specs.Table.{known_of}
-use Rattle.wild_plan_spec.specs.Line.{sharing, closed, closed_by}
+use Rattle.wild_plan_spec.specs.Line.{sharing, ended_alone, closed_by}
 use Rattle.wild_plan.specs.Moves.{state_of}
-use Rattle.wild_plan.proofs.walk.Walk.close.Goals as goal
+use Rattle.wild_plan.proofs.walk.Walk.end_alone.Goals as goal
 
 pub returns-in_ok-overlap-in-Some : goal.returns-in_ok-overlap-in-Some
-unfolding closed
+unfolding ended_alone
 returns-in_ok-overlap-in-Some c =
     let walk = c.args.self.now in
     let s = c.args.«section» in
