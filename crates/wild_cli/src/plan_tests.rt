@@ -337,8 +337,8 @@ fn symbol_faults(rt: HostRuntime) -> Result<(), Fail> {
 // `s0 = 1;`, and each next symbol as the one before it, up to this number.
 fn chain(alloc: Global, last: usize) -> Result<String, AllocError> {
     let mut script = String::from_str(alloc, "s0 = 1;")?;
-    for number in 1..last + 1 {
-        let line = format!(in alloc; "s{number} = s{};", number - 1)?;
+    for number in 0..last {
+        let line = format!(in alloc; "s{} = s{number};", number + 1)?;
         script.push_str(line.as_str())?;
     }
     Ok(script)
