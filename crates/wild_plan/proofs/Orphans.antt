@@ -1,5 +1,5 @@
 -- The names of sections, each where it stands first.
-use Rattle.std.proofs.Common.{◌≡◌, ◌∙◌, Bool, true, false, not, ◌&&◌, ◌||◌, List, [], ◌∷◌, ◌++◌, length, cond, refl, sym, ap, subst, Option, Some, None}
+use Rattle.std.proofs.Common.{◌≡◌, ◌∙◌, Bool, true, false, not, ◌&&◌, ◌||◌, List, [], ◌∷◌, ◌++◌, length, cond, refl, sym, ap, subst}
 use Rattle.std.specs.List.{list_any, filter}
 use Rattle.std.specs.Str.{bytes_eq}
 use Rattle.std.proofs.lemmas.Slice.Eq.{bytes_eq-Decides}
@@ -12,7 +12,7 @@ use Rattle.wild_plan_spec.specs.declared.row.InputRow.{InputRow}
 use Rattle.wild_plan_spec.specs.Fates.{lacks, firsts, orphans, decision, name_decision, rule_decision, asked_by, names_asked, fate_by, all_fates}
 use Rattle.wild_plan_spec.specs.Names.{Name}
 use Rattle.wild_plan_spec.specs.Rules.{Rule, chunk_of}
-use Rattle.wild_plan.specs.Collected.{with_name, with_decision, with_rows, decisions, fates_by}
+use Rattle.wild_plan.specs.Collected.{with_decision, with_rows, decisions, fates_by}
 
 -- ---- decisions
 

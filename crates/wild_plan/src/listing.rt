@@ -156,7 +156,13 @@ pub fn placed_symbols(
 {
     let mut placed = Items::new(alloc);
     for symbol in symbols {
-        push_symbol(alloc, &mut placed, table, symbol, symbol_chunk(fates, symbol))?;
+        push_symbol(
+            alloc,
+            &mut placed,
+            table,
+            symbol,
+            symbol_chunk(fates, symbol),
+        )?;
     }
     Ok(placed)
 }

@@ -104,13 +104,12 @@ fn place_rows<'a>(
     ensures { IfOk result (IsPlacedBy (shown parts.entry.places) parts.entry.rules own.entry rows.now) }
 {
     let Parts {
-        mut places, rules, ..
+        mut places,
+        rules,
+        ..
     } = parts;
     let first = own.len();
-    let Fates {
-        sections,
-        fates,
-    } = find_fates(alloc, own, &rules, rows)?;
+    let Fates { sections, fates } = find_fates(alloc, own, &rules, rows)?;
     push_orphans(&mut places, first, sections.len())?;
     Ok(Placed {
         names: sections,

@@ -165,12 +165,7 @@ impl Walk {
     }
 
     #[tactic(auto, unfolding(wild_plan_spec::specs::Line::closed))]
-    fn close(
-        &mut self,
-        given: &Given<'_>,
-        section: usize,
-        rest: Option<Chunk>,
-    ) -> Result<(), Fault>
+    fn close(&mut self, given: &Given<'_>, section: usize, rest: Option<Chunk>) -> Result<(), Fault>
         ensures { Moves result self.new (closed (setting_of given.now.names.now) (rows_at given.now.chunks.now) section rest (state_of self.old)) }
     {
         match rest {

@@ -1,5 +1,5 @@
 -- Where each row goes.
-use Rattle.std.specs.Prelude.{ℕ, Bool, not, List, [], ◌∷◌, ◌++◌, Option, Some, None, map, if◌then◌else◌}
+use Rattle.std.specs.Prelude.{ℕ, Bool, not, List, [], ◌∷◌, ◌++◌, Option, Some, None, if◌then◌else◌}
 use Rattle.std.specs.List.{filter, list_any}
 use Rattle.wild_base.specs.InputFlags.{is_exclude}
 use Rattle.wild_base.specs.Numbering.{is_named, number_of}

@@ -2,7 +2,7 @@
 use Rattle.std.proofs.Common.{◌∙◌, ◌++◌, List, ap, sym}
 use Rattle.std.proofs.lemmas.Result.{err_from_is_err_and}
 use Rattle.wild_eval.specs.declared.names.Entry.{Entry}
-use Rattle.wild_plan_spec.specs.Definitions.{provided_entries, entry_names}
+use Rattle.wild_plan_spec.specs.Definitions.{provided_entries}
 use Rattle.wild_plan_spec.specs.Fates.{names_of}
 use Rattle.wild_plan.specs.Entries.{shown_entries}
 use Rattle.wild_plan.specs.Pointed.{pointed}

@@ -65,8 +65,8 @@ returns-clause-ended c =
     let order = rows_at c.in_ok-by_chunk.by_chunk in
     λ t sound. record {
       laid = laid script t inputs checked sound names c.numbers.result.now exponents entries known traits c.as_slice-sections.ensures c.numbers.ensures alignments c.as_slice-2.ensures
-    order ordered places (ap shown c.as_slice-places.ensures) (state_of c.in_ok-walk.walk) c.in_ok-walk.ensures.laid_out;
+          order ordered places (ap shown c.as_slice-places.ensures) (state_of c.in_ok-walk.walk) c.in_ok-walk.ensures.laid_out;
       finishes = finishes script t inputs checked sound names c.numbers.result.now exponents entries known traits c.as_slice-sections.ensures c.numbers.ensures alignments c.as_slice-2.ensures
-    order ordered places (ap shown c.as_slice-places.ensures) (state_of c.in_ok-walk.walk) c.in_ok-walk.ensures.laid_out _ c.in_ok-found.ensures;
+          order ordered places (ap shown c.as_slice-places.ensures) (state_of c.in_ok-walk.walk) c.in_ok-walk.ensures.laid_out _ c.in_ok-found.ensures;
       traits = traits_fates script t inputs checked sound known traits;
     }
