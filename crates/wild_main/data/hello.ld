@@ -10,4 +10,7 @@ SECTIONS {
     }
     .eh_frame : { *(.eh_frame) }
     .data : { *(.data .data.readings .data.calls) }
+    data_end = .;
+    ASSERT(data_end <= 1K, "hello does not fit")
 }
+PROVIDE(heap_start = ALIGN(data_end, 4K));
