@@ -1,3 +1,4 @@
+pub mod Bounds
 pub mod Ordered
 pub mod RowOrder
 pub mod Standing

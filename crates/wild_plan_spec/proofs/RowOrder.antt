@@ -18,7 +18,7 @@ row_total =
     (then_total (on_total (λ (r : ChunkRow). r.row) nat_cmp_total)
     (then_total (on_total (λ (r : ChunkRow). r.size) nat_cmp_total) (on_total (λ (r : ChunkRow). r.chunk) chunk_total)))
 
-stands_weakly : IsStrictWeakOrder stands_before
+pub stands_weakly : IsStrictWeakOrder stands_before
 stands_weakly = ranks_by row_total (λ (r : ChunkRow). r)
 
 -- the rows of a chunk have one order

@@ -15,6 +15,9 @@ use Rattle.wild_plan_spec.specs.Walk.{Stands, Refuses}
 at : {A : Type 0} (xs : List A) (i : ℕ) → i < length xs → (x : A) × (slice_get xs i ≡ Some x)
 at xs i h = ⊎_elim (λ found. (found.0, found.2)) (λ past. absurd (omega (arith, past.0))) (slice_get_cases xs i).1
 
+pub place_at : (xs : List Place) (i : ℕ) → i < length xs → (x : Place) × (slice_get xs i ≡ Some x)
+place_at xs i h = at xs i h
+
 module _ (setting : Setting) (rows : Chunk → List ChunkRow) (places : List Place) where
   -- nothing is laid out yet
   pub stands_first : Stands setting rows places 0 first_state
