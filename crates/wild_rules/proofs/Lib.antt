@@ -1,0 +1,3 @@
+pub mod Firsts
+pub mod Memory
+pub mod Utf8

@@ -1,0 +1,444 @@
+//! Sections without names, orphans and merges, on a small platform.
+
+use crate::*;
+use std::test::Fail;
+use wild_base::{
+    Architecture, Args, Endianness, OutputSectionId, PartId, PlatformIds, RelocationModel,
+    SectionHeader, SegmentName,
+};
+
+/// Two single parts, and six regular sections. `.eh_frame` is `.note.gnu.property` too, and no one has `.tbss`.
+#[derive(Debug, Clone, Copy)]
+struct Six;
+
+impl PlatformIds for Six {
+    ghost use Rattle.std.proofs.Common.{refl, lit≤, lit<};
+    ghost use Rattle.std.specs.Prelude.{Some, None, false};
+
+    const NUM_SINGLE_PART_SECTIONS: u32 = 2;
+
+    const NUM_BUILT_IN_REGULAR_SECTIONS: usize = 6;
+
+    const TEXT_SECTION_ID: Option<OutputSectionId> = Some(OutputSectionId(2));
+
+    const DATA_SECTION_ID: Option<OutputSectionId> = Some(OutputSectionId(3));
+
+    const BSS_SECTION_ID: Option<OutputSectionId> = Some(OutputSectionId(4));
+
+    const RODATA_SECTION_ID: Option<OutputSectionId> = Some(OutputSectionId(5));
+
+    const TDATA_SECTION_ID: Option<OutputSectionId> = Some(OutputSectionId(6));
+
+    const TBSS_SECTION_ID: Option<OutputSectionId> = None;
+
+    const EH_FRAME_SECTION_ID: Option<OutputSectionId> = Some(OutputSectionId(7));
+
+    const NOTE_GNU_PROPERTY_SECTION_ID: Option<OutputSectionId> = Some(OutputSectionId(7));
+
+    const RISCV_ATTRIBUTES_SECTION_ID: Option<OutputSectionId> = Some(OutputSectionId(6));
+
+    ghost NUM_SINGLE_PART_SECTIONS = { 2 };
+
+    ghost NUM_BUILT_IN_REGULAR_SECTIONS = { 6 };
+
+    ghost TEXT_SECTION_ID = { Some 2 };
+
+    ghost DATA_SECTION_ID = { Some 3 };
+
+    ghost BSS_SECTION_ID = { Some 4 };
+
+    ghost RODATA_SECTION_ID = { Some 5 };
+
+    ghost TDATA_SECTION_ID = { Some 6 };
+
+    ghost TBSS_SECTION_ID = { None };
+
+    ghost EH_FRAME_SECTION_ID = { Some 7 };
+
+    ghost NOTE_GNU_PROPERTY_SECTION_ID = { Some 7 };
+
+    ghost RISCV_ATTRIBUTES_SECTION_ID = { Some 6 };
+
+    ghost part_of = { λ section. section };
+
+    ghost section_of = { λ part. part };
+
+    ghost is_packed = { λ section. false };
+
+    ghost two_single_parts = { lit≤ tt };
+
+    ghost built_in_fit = { lit< tt };
+
+    ghost parts_and_back = { λ n below. record { stays = below; returns = refl } };
+
+    ghost sections_and_back = { λ n below. record { stays = below; returns = refl } };
+
+    fn single_part_id(section: OutputSectionId) -> Option<PartId> {
+        if section.0 < 2 {
+            Some(PartId(section.0))
+        } else {
+            None
+        }
+    }
+
+    fn single_part_output_section_id(part: PartId) -> Option<OutputSectionId> {
+        if part.0 < 2 {
+            Some(OutputSectionId(part.0))
+        } else {
+            None
+        }
+    }
+
+    fn is_packed(_section: OutputSectionId) -> bool {
+        false
+    }
+}
+
+/// What the header of a section in memory with bits, or of zeros, tells.
+#[derive(Debug, Clone, Copy)]
+struct Header {
+    exclude: bool,
+    null: bool,
+    memory: bool,
+    bits: bool,
+    code: bool,
+    write: bool,
+    thread: bool,
+    merge: bool,
+    group: bool,
+}
+
+const NOTHING: Header = Header {
+    exclude: false,
+    null: false,
+    memory: false,
+    bits: false,
+    code: false,
+    write: false,
+    thread: false,
+    merge: false,
+    group: false,
+};
+
+impl SectionHeader for Header {
+    ghost use Rattle.std.specs.Prelude.{not, false};
+
+    ghost should_exclude = { λ header. header.exclude };
+
+    ghost is_null = { λ header. header.null };
+
+    ghost is_alloc = { λ header. header.memory };
+
+    ghost is_prog_bits = { λ header. header.bits };
+
+    ghost is_no_bits = { λ header. not header.bits };
+
+    ghost is_executable = { λ header. header.code };
+
+    ghost is_writable = { λ header. header.write };
+
+    ghost is_tls = { λ header. header.thread };
+
+    ghost is_merge_section = { λ header. header.merge };
+
+    ghost is_group = { λ header. header.group };
+
+    ghost is_group_header = { λ header. false };
+
+    fn should_exclude(&self) -> bool {
+        self.exclude
+    }
+
+    fn is_null(&self) -> bool {
+        self.null
+    }
+
+    fn is_alloc(&self) -> bool {
+        self.memory
+    }
+
+    fn is_prog_bits(&self) -> bool {
+        self.bits
+    }
+
+    fn is_no_bits(&self) -> bool {
+        !self.bits
+    }
+
+    fn is_executable(&self) -> bool {
+        self.code
+    }
+
+    fn is_writable(&self) -> bool {
+        self.write
+    }
+
+    fn is_tls(&self) -> bool {
+        self.thread
+    }
+
+    fn is_merge_section(&self) -> bool {
+        self.merge
+    }
+
+    fn is_group(&self) -> bool {
+        self.group
+    }
+
+    fn is_group_header(&self) -> bool {
+        false
+    }
+}
+
+#[derive(Debug, Clone, Copy)]
+struct Asked {
+    merge: bool,
+    partial: bool,
+}
+
+impl Args for Asked {
+    ghost use Rattle.std.specs.Prelude.{false, None};
+    ghost use Rattle.wild_base.specs.declared.target.Architecture.TheVariants as arch;
+    ghost use Rattle.wild_base.specs.declared.target.RelocationModel.TheVariants as model;
+
+    ghost architecture = { λ _. arch.X86_64 };
+
+    ghost output_format_endian = { λ _. None };
+
+    ghost relocation_model = { λ _. model.Fixed };
+
+    ghost has_dynamic_linker = { λ _. false };
+
+    ghost should_merge_sections = { λ asked. asked.merge };
+
+    ghost should_output_partial_object = { λ asked. asked.partial };
+
+    ghost should_output_executable = { λ _. false };
+
+    ghost start_address_for_section = { λ _ _. None };
+
+    ghost segment_start_override = { λ _ _. None };
+
+    fn architecture(&self) -> Architecture {
+        Architecture::X86_64
+    }
+
+    fn output_format_endian(&self) -> Option<Endianness> {
+        None
+    }
+
+    fn relocation_model(&self) -> RelocationModel {
+        RelocationModel::Fixed
+    }
+
+    fn has_dynamic_linker(&self) -> bool {
+        false
+    }
+
+    fn should_merge_sections(&self) -> bool {
+        self.merge
+    }
+
+    fn should_output_partial_object(&self) -> bool {
+        self.partial
+    }
+
+    fn should_output_executable(&self) -> bool {
+        false
+    }
+
+    fn start_address_for_section(&self, _name: &[u8]) -> Option<u64> {
+        None
+    }
+
+    fn segment_start_override(&self, _name: SegmentName) -> Option<u64> {
+        None
+    }
+}
+
+fn section(id: u32) -> SectionRuleOutcome {
+    SectionRuleOutcome::Section(SectionOutputInfo::regular(OutputSectionId(id)))
+}
+
+#[test]
+fn homes(rt: HostRuntime) {
+    let zeros = Header {
+        memory: true,
+        write: true,
+        ..NOTHING
+    };
+    let bits = Header {
+        bits: true,
+        ..zeros
+    };
+    for (header, wanted) in [
+        (NOTHING, SectionRuleOutcome::Discard),
+        (zeros, section(4)),
+        (
+            Header {
+                thread: true,
+                ..zeros
+            },
+            SectionRuleOutcome::Discard,
+        ),
+        (bits, section(3)),
+        (
+            Header {
+                thread: true,
+                ..bits
+            },
+            section(6),
+        ),
+        (
+            Header {
+                code: true,
+                thread: true,
+                ..bits
+            },
+            section(2),
+        ),
+        (
+            Header {
+                write: false,
+                ..bits
+            },
+            section(5),
+        ),
+    ] {
+        assert!(rt; unnamed_section_output::<Six, Header>(&header) == wanted);
+    }
+}
+
+#[test]
+fn lookups(rt: HostRuntime) -> Result<(), Fail> {
+    let alloc = rt.alloc();
+    let rule = SectionRule::prefix(alloc, b".te", SectionRuleOutcome::EhFrame)?;
+    let rules = SectionRules::from_rules(alloc, &[rule])?;
+    let bits = Header {
+        memory: true,
+        bits: true,
+        ..NOTHING
+    };
+    for (name, header, wanted) in [
+        (b".text".as_slice(), bits, SectionRuleOutcome::EhFrame),
+        (
+            b".text",
+            Header {
+                exclude: true,
+                ..bits
+            },
+            SectionRuleOutcome::Discard,
+        ),
+        (b"", bits, section(5)),
+        (b".data", bits, SectionRuleOutcome::Custom),
+    ] {
+        assert!(rt; rules.lookup::<Six, Header>(name, None, &header) == wanted);
+    }
+    Ok(())
+}
+
+#[test]
+fn orphans(rt: HostRuntime) -> Result<(), Fail> {
+    let alloc = rt.alloc();
+    let discard = SectionRule::exact(alloc, b".no", SectionRuleOutcome::Discard)?;
+    let outside = SectionRule::prefix(alloc, b".te", SectionRuleOutcome::Debug)?;
+    let section_rules = SectionRules::from_rules(alloc, &[discard, outside])?;
+    let rules = LayoutRules {
+        section_rules,
+        has_linker_script: true,
+    };
+    for (name, header, wanted) in [
+        (b".text".as_slice(), NOTHING, true),
+        (b".data", NOTHING, true),
+        (b"", NOTHING, true),
+        (b".no", NOTHING, false),
+        (
+            b".data",
+            Header {
+                exclude: true,
+                ..NOTHING
+            },
+            false,
+        ),
+        (
+            b".data",
+            Header {
+                null: true,
+                ..NOTHING
+            },
+            false,
+        ),
+    ] {
+        assert!(rt; rules.is_orphan(name, None, &header) == wanted);
+    }
+    Ok(())
+}
+
+#[test]
+fn no_orphans(rt: HostRuntime) -> Result<(), Fail> {
+    let alloc = rt.alloc();
+    let rule = SectionRule::new(alloc, b".text", None, SectionRuleOutcome::Debug);
+    let rule = rule.expect(&rt, "a rule");
+    let section_rules = SectionRules::from_rules(alloc, &[rule])?;
+    let mut rules = LayoutRules {
+        section_rules,
+        has_linker_script: true,
+    };
+    assert!(rt; !rules.is_orphan(b".text", None, &NOTHING));
+    assert!(rt; rules.is_orphan(b".data", None, &NOTHING));
+    rules.has_linker_script = false;
+    assert!(rt; !rules.is_orphan(b".text", None, &NOTHING));
+    Ok(())
+}
+
+#[test]
+fn merges(rt: HostRuntime) {
+    let mergeable = Header {
+        merge: true,
+        ..NOTHING
+    };
+    let grouped = Header {
+        group: true,
+        ..mergeable
+    };
+    let asked = Asked {
+        merge: true,
+        partial: false,
+    };
+    let partial = Asked {
+        merge: true,
+        partial: true,
+    };
+    for (header, alignment, args, wanted) in [
+        (mergeable, 1, asked, true),
+        (mergeable, 0, partial, true),
+        (mergeable, 2, asked, false),
+        (NOTHING, 1, asked, false),
+        (
+            mergeable,
+            1,
+            Asked {
+                merge: false,
+                partial: false,
+            },
+            false,
+        ),
+        (grouped, 1, asked, true),
+        (grouped, 1, partial, false),
+    ] {
+        assert!(rt; should_merge_sections(&header, alignment, &args) == wanted);
+    }
+}
+
+#[test]
+fn outcomes_of_ids(rt: HostRuntime) {
+    let info = SectionOutputInfo::keep(OutputSectionId(1));
+    for (id, wanted) in [
+        (7, SectionRuleOutcome::EhFrame),
+        (6, SectionRuleOutcome::RiscVAttribute),
+        (2, SectionRuleOutcome::Section(info)),
+    ] {
+        let outcome = SectionRuleOutcome::section_rule_from_id::<Six>(OutputSectionId(id), info);
+        assert!(rt; outcome == wanted);
+    }
+}

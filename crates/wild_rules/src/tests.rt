@@ -1,0 +1,163 @@
+use super::*;
+use std::alloc::Global;
+use std::process::Abort;
+use std::test::Fail;
+use wild_base::OutputSectionId;
+
+const CUSTOM: SectionRuleOutcome = SectionRuleOutcome::Custom;
+
+// Whether the rule, and a copy of it, match.
+fn both_match(
+    rt: &impl Abort,
+    alloc: Global,
+    rule: &SectionRule,
+    name: &[u8],
+    file: Option<&[u8]>,
+) -> bool {
+    let copy = rule.copy(alloc).expect(rt, "memory");
+    let found = rule.matches(name, file);
+    assert!(rt; copy.matches(name, file) == found);
+    assert!(rt; copy.outcome() == rule.outcome());
+    found
+}
+
+// Whether the rule of a script with this pattern matches.
+fn is_match(rt: &impl Abort, alloc: Global, pattern: &[u8], name: &[u8]) -> bool {
+    let rule = SectionRule::new(alloc, pattern, None, CUSTOM).expect(rt, "a rule");
+    both_match(rt, alloc, &rule, name, None)
+}
+
+#[test]
+fn section_patterns(rt: HostRuntime) {
+    for (pattern, name, wanted) in [
+        (b"foo\\*bar".as_slice(), b"foo*bar".as_slice(), true),
+        (b"foo\\*bar", b"fooxbar", false),
+        (b"foo\\*bar", b"foo\\*bar", false),
+        (b"a\\\\", b"a\\", true),
+        (b".mydata.[0-9]", b".mydata.5", true),
+        (b".mydata.[0-9]", b".mydata.10", false),
+        (b".text.*.foo", b".text.bar.foo", true),
+        (b".text.*.foo", b".text.bar.baz", false),
+        (b".text", b".text", true),
+        (b".text", b".text.hot", false),
+        (b"*", b".\xff", false),
+        (b".\xff", b".\xff", true),
+    ] {
+        assert!(rt; is_match(&rt, rt.alloc(), pattern, name) == wanted);
+    }
+}
+
+// Whether the rule of a script for .ctors in files of this pattern matches.
+fn is_file_match(rt: &impl Abort, alloc: Global, pattern: &[u8], file: Option<&[u8]>) -> bool {
+    let rule = SectionRule::new(alloc, b".ctors", Some(pattern), CUSTOM).expect(rt, "a rule");
+    assert!(rt; !rule.matches(b".dtors", file));
+    both_match(rt, alloc, &rule, b".ctors", file)
+}
+
+#[test]
+fn file_patterns(rt: HostRuntime) {
+    for (pattern, file, wanted) in [
+        (b"*crt?.o".as_slice(), Some(b"lib/crt1.o".as_slice()), true),
+        (b"*crt?.o", Some(b"crt.o"), false),
+        (b"*crt?.o", Some(b"crt10.o"), false),
+        (b"*crt?.o", Some(b"\xffcrt1.o"), false),
+        (b"*crt?.o", None, false),
+        (b"*", None, false),
+        (b"a\\*.o", Some(b"a*.o"), true),
+        (b"a.o", Some(b"a.o"), true),
+    ] {
+        assert!(rt; is_file_match(&rt, rt.alloc(), pattern, file) == wanted);
+    }
+}
+
+#[test]
+fn faults(rt: HostRuntime) {
+    for (pattern, file, wanted) in [
+        (b"a**".as_slice(), None, RuleFault::BadSection),
+        (b"", None, RuleFault::BadSection),
+        (b"a\\", None, RuleFault::BadSection),
+        (b"a\\\\\\", None, RuleFault::BadSection),
+        (b"*\xff", None, RuleFault::BadSection),
+        (b"[a", Some(b"a.o".as_slice()), RuleFault::BadSection),
+        (b"a**", Some(b"[a"), RuleFault::BadFile),
+        (b".text", Some(b""), RuleFault::BadFile),
+        (b".text", Some(b"\xff"), RuleFault::BadFile),
+        (b".text", Some(b"a\\"), RuleFault::BadFile),
+    ] {
+        let rule = SectionRule::new(rt.alloc(), pattern, file, CUSTOM);
+        assert!(rt; rule.err() == Some(wanted));
+    }
+}
+
+#[test]
+fn names_and_prefixes(rt: HostRuntime) -> Result<(), Fail> {
+    let alloc = rt.alloc();
+    let two = OutputSectionId(2);
+    let discard = SectionRuleOutcome::Discard;
+    let kept = SectionOutputInfo {
+        section_id: two,
+        must_keep: true,
+        sorted: false,
+    };
+    let regular = SectionOutputInfo::regular(two);
+    assert!(rt; regular != kept && SectionOutputInfo::keep(two) == kept);
+    let rule = SectionRule::prefix_section(alloc, b".te", two)?;
+    assert!(rt; rule.outcome() == SectionRuleOutcome::Section(regular));
+    assert!(rt; both_match(&rt, alloc, &rule, b".text", None));
+    let rule = SectionRule::exact(alloc, b".te", discard)?;
+    assert!(rt; rule.outcome() == discard);
+    assert!(rt; !both_match(&rt, alloc, &rule, b".text", Some(b"a.o")));
+    let rule = SectionRule::exact_section_keep(alloc, b".text", two)?;
+    assert!(rt; rule.outcome() == SectionRuleOutcome::Section(kept));
+    assert!(rt; both_match(&rt, alloc, &rule, b".text", Some(b"\xff")));
+    Ok(())
+}
+
+#[test]
+fn sorted_prefix(rt: HostRuntime) -> Result<(), Fail> {
+    let alloc = rt.alloc();
+    let two = OutputSectionId(2);
+    let rule = SectionRule::prefix_section_sort(alloc, b".te", two)?;
+    let kept = SectionOutputInfo::keep(two);
+    assert!(rt; rule.outcome() == SectionRuleOutcome::SortedSection(kept));
+    assert!(rt; both_match(&rt, alloc, &rule, b".text", None));
+    assert!(rt; !both_match(&rt, alloc, &rule, b".t", None));
+    let rule = SectionRule::prefix(alloc, b"*", SectionRuleOutcome::Debug)?;
+    assert!(rt; both_match(&rt, alloc, &rule, b"*a", None));
+    assert!(rt; !both_match(&rt, alloc, &rule, b"a", None));
+    Ok(())
+}
+
+// `.text` in a.o, any name that ends in t, and names that begin with `.te`.
+fn three_rules(alloc: Global) -> Result<SectionRules, RuleFault> {
+    let mut rules = Vec::new(alloc);
+    let rule = SectionRule::new(alloc, b".text", Some(b"a.o"), SectionRuleOutcome::Discard)?;
+    rules.push(rule).map_err(|_| RuleFault::NoMemory)?;
+    let rule = SectionRule::new(alloc, b"*t", None, SectionRuleOutcome::Debug)?;
+    rules.push(rule).map_err(|_| RuleFault::NoMemory)?;
+    let rule = SectionRule::prefix_section(alloc, b".te", OutputSectionId(2))?;
+    rules.push(rule).map_err(|_| RuleFault::NoMemory)?;
+    let rules = SectionRules::from_rules(alloc, rules.as_slice())?;
+    Ok(rules)
+}
+
+#[test]
+fn first_match(rt: HostRuntime) {
+    let rules = three_rules(rt.alloc()).expect(&rt, "rules");
+    let section = SectionRuleOutcome::Section(SectionOutputInfo::regular(OutputSectionId(2)));
+    for (name, file, wanted) in [
+        (
+            b".text".as_slice(),
+            Some(b"a.o".as_slice()),
+            Some(SectionRuleOutcome::Discard),
+        ),
+        (b".text", Some(b"b.o"), Some(SectionRuleOutcome::Debug)),
+        (b".text", None, Some(SectionRuleOutcome::Debug)),
+        (b".text.a", Some(b"a.o"), Some(section)),
+        (b".data", None, None),
+        (b"", Some(b"a.o"), None),
+    ] {
+        let found = rules.lookup_rule(name, file);
+        assert!(rt; found.map(|rule| rule.outcome()) == wanted);
+    }
+}
