@@ -115,12 +115,13 @@ module _ (rows : List InputRow) where
   kept_of n [] fates h = tt
   kept_of n (row ∷ rs) [] h = tt
   kept_of n (row ∷ rs) (None ∷ fates) h = kept_of (n + 1) rs fates (λ i. let e : n + 1 + i ≡ n + suc i = omega arith in rw e (h (suc i)))
-  kept_of n (row ∷ rs) (Some q ∷ fates) h =
-      (λ other there. let z : n + 0 ≡ n = omega arith in
-      let both : Some row ≡ Some other = sym (h 0) ∙ ap (slice_get rows) z ∙ there in
-      let same : row ≡ other = cc in
-      ap (λ (r : InputRow). r.size) same,
-      kept_of (n + 1) rs fates (λ i. let e : n + 1 + i ≡ n + suc i = omega arith in rw e (h (suc i))))
+  kept_of n (row ∷ rs) (Some q ∷ fates) h = (
+    λ other there. let z : n + 0 ≡ n = omega arith in
+        let both : Some row ≡ Some other = sym (h 0) ∙ ap (slice_get rows) z ∙ there in
+        let same : row ≡ other = cc in
+        ap (λ (r : InputRow). r.size) same,
+    kept_of (n + 1) rs fates (λ i. let e : n + 1 + i ≡ n + suc i = omega arith in rw e (h (suc i))),
+  )
 
   -- ---- lines
 

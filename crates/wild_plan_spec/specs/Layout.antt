@@ -72,7 +72,7 @@ abbrev pub row_names : List InputRow → List RowNames
 row_names [] = []
 row_names (row ∷ rows) = record { file = row.file; «section» = row.«section» } ∷ row_names rows
 
--- a symbol of the table, in the chunk of its row; no row passes 2 ^ 64, so that this is the sum
+-- a symbol of the table, in the chunk of its row; rows end below 2 ^ 64, so that this is the sum
 abbrev pub table_symbol : Known → SymbolRow → Option Chunk → List PlacedSymbol
 table_symbol known s None = []
 table_symbol known s (Some chunk) = record { name = s.name; address = (number_at known (Address s.row) + s.offset) % 2 ^ 64; «section» = Some chunk.«section»; hidden = false } ∷ []
