@@ -1,0 +1,17 @@
+-- What statements of the location counter come to over the finished layout.
+use Rattle.std.specs.Prelude.{◌≡◌, ℕ, [], Some, Ok, slice_get}
+use Rattle.wild_expression_tree.specs.declared.tree.Expression.{Expression}
+use Rattle.wild_script.specs.Tree.{Bytes}
+use Rattle.wild_script.specs.declared.tree.LinkerScript.{LinkerScript}
+use Rattle.wild_value_spec.specs.Value.{full}
+use Rattle.wild_plan_spec.specs.declared.row.InputTable.{InputTable}
+use Rattle.wild_plan_spec.specs.Definitions.{point_of}
+use Rattle.wild_plan_spec.specs.Line.{State}
+use Rattle.wild_plan_spec.specs.Settings.{setting_of}
+
+-- the expression of place i has a value over what is known at the end, and it is listed with that
+pub record Holds (script : Bytes) (t : LinkerScript) (inputs : InputTable) (state : State) (i : ℕ) (e : Expression) : Type 0 where
+  pub address : ℕ
+  pub value : full (setting_of script t inputs) i state.known 1024 [] e (point_of i) ≡ Ok address
+  pub index : ℕ
+  pub listed : slice_get state.locations index ≡ Some (record { statement = i; address = address })

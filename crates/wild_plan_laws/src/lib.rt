@@ -1,0 +1,6 @@
+//! What follows from the definitions of plans and those of values.
+#![tactic(auto)]
+
+mod laws;
+
+pub use laws::locations_hold;
