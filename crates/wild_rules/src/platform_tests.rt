@@ -432,12 +432,12 @@ fn merges(rt: HostRuntime) {
 
 #[test]
 fn outcomes_of_ids(rt: HostRuntime) {
-    let info = SectionOutputInfo::keep(OutputSectionId(1));
     for (id, wanted) in [
         (7, SectionRuleOutcome::EhFrame),
         (6, SectionRuleOutcome::RiscVAttribute),
-        (2, SectionRuleOutcome::Section(info)),
+        (2, section(1)),
     ] {
+        let info = SectionOutputInfo::regular(OutputSectionId(1));
         let outcome = SectionRuleOutcome::section_rule_from_id::<Six>(OutputSectionId(id), info);
         assert!(rt; outcome == wanted);
     }
