@@ -1,5 +1,5 @@
 -- What is known, and the list of locations, grow from place to place.
-use Rattle.std.proofs.Common.{◌≡◌, ◌∙◌, ◌⊎◌, ℕ, zero, suc, ◌+◌, ◌-◌, ◌<◌, ◌≤◌, Bool, true, false, cond, List, [], ◌∷◌, ◌++◌, length, Option, Some, None, Result, Ok, Err, refl, sym, ap, subst, inl, inr, ⊎_elim, arith, add-one}
+use Rattle.std.proofs.Common.{◌≡◌, ◌∙◌, ℕ, zero, suc, ◌+◌, ◌-◌, ◌<◌, ◌≤◌, List, [], ◌∷◌, ◌++◌, length, Option, Some, None, Result, Ok, Err, refl, sym, ap, subst, inl, inr, arith}
 use Rattle.std.specs.Prelude.{slice_get}
 use Rattle.std.proofs.lemmas.List.{append-nil, append_assoc}
 use Rattle.std.proofs.lemmas.Option.{slice_get_within}
@@ -8,10 +8,10 @@ use Rattle.wild_expression_tree.specs.declared.tree.Expression.{Expression}
 use Rattle.wild_script.specs.Tree.{Bytes}
 use Rattle.wild_script.specs.declared.tree.LinkerScript.{LinkerScript}
 use Rattle.wild_value_spec.specs.Answer.{◌>>=◌}
-use Rattle.wild_value_spec.specs.Known.{Known, Entry, IsPart, Start, Load, End, Address, Dot, same_entry, or_else, with_entry}
+use Rattle.wild_value_spec.specs.Known.{Known, Entry, IsPart, Start, Load, End, Address, Dot, or_else, with_entry}
 use Rattle.wild_value_spec.specs.Setting.{Setting}
 use Rattle.wild_value_spec.specs.Value.{sum_of, full}
-use Rattle.wild_value_laws.specs.Stable.{IsEarly, Stays}
+use Rattle.wild_value_laws.specs.Stable.{Stays}
 use Rattle.wild_value_laws.proofs.Stable.{full_values_stay}
 use Rattle.wild_plan_spec.specs.declared.chunk.Chunk.{Chunk}
 use Rattle.wild_plan_spec.specs.declared.chunk.ChunkRow.{ChunkRow}

@@ -1,5 +1,5 @@
 -- Each step of a value stays when more is known.
-use Rattle.std.proofs.Common.{◌≡◌, ◌⊎◌, ℕ, zero, suc, Bool, true, false, not, ◌||◌, ◌==◌, cond, List, ◌∷◌, Option, Some, None, Result, Ok, Err, refl, inl, inr, ◌∙◌, ap, sym, subst}
+use Rattle.std.proofs.Common.{◌≡◌, ℕ, zero, suc, Bool, true, false, not, ◌||◌, ◌==◌, cond, List, ◌∷◌, Option, Some, None, Result, Ok, Err, refl, inl, inr, ap, sym, subst}
 use Rattle.wild_base.specs.declared.fault.Fault.{Fault}
 use Rattle.wild_base.specs.declared.fault.Fault.TheVariants.{NotLaidOut, AlignZero, SymbolCycle}
 use Rattle.wild_expression_tree.specs.declared.tree.AssertCommand.{AssertCommand}
