@@ -59,7 +59,7 @@ knows_more s u part same = record { known = part; locations = ([], same ∙ sym 
 
 -- ---- lines
 
-bind_ok : {A B E : Type 0} (x : Result A E) (f : A → Result B E) (y : B) → (x >>= f) ≡ Ok y → (a : A) × (x ≡ Ok a) × (f a ≡ Ok y)
+pub bind_ok : {A B E : Type 0} (x : Result A E) (f : A → Result B E) (y : B) → (x >>= f) ≡ Ok y → (a : A) × (x ≡ Ok a) × (f a ≡ Ok y)
 bind_ok (Ok a) f y h = (a, refl, h)
 bind_ok (Err e) f y h = absurd (cc)
 

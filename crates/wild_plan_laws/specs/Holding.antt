@@ -1,10 +1,13 @@
--- What statements of the location counter come to over the finished layout.
-use Rattle.std.specs.Prelude.{◌≡◌, ℕ, [], Some, Ok, slice_get}
+-- What holds of a finished layout.
+use Rattle.std.specs.Prelude.{◌≡◌, ℕ, ◌%◌, ◌^◌, List, [], Some, Ok, slice_get}
 use Rattle.wild_expression_tree.specs.declared.tree.Expression.{Expression}
 use Rattle.wild_script.specs.Tree.{Bytes}
 use Rattle.wild_script.specs.declared.tree.LinkerScript.{LinkerScript}
+use Rattle.wild_value_spec.specs.Known.{Known, Address}
 use Rattle.wild_value_spec.specs.Value.{full}
+use Rattle.wild_plan_spec.specs.declared.row.InputRow.{InputRow}
 use Rattle.wild_plan_spec.specs.declared.row.InputTable.{InputTable}
+use Rattle.wild_plan_spec.specs.Chunks.{alignment_of}
 use Rattle.wild_plan_spec.specs.Definitions.{point_of}
 use Rattle.wild_plan_spec.specs.Line.{State}
 use Rattle.wild_plan_spec.specs.Settings.{setting_of}
@@ -15,3 +18,7 @@ pub record Holds (script : Bytes) (t : LinkerScript) (inputs : InputTable) (stat
   pub value : full (setting_of script t inputs) i state.known 1024 [] e (point_of i) ≡ Ok address
   pub index : ℕ
   pub listed : slice_get state.locations index ≡ Some (record { statement = i; address = address })
+
+-- each row whose address is known stands at a multiple of its alignment
+abbrev pub StandAligned : List InputRow → Known → Type 0
+StandAligned rows known = (r : ℕ) (row : InputRow) (a : ℕ) → slice_get rows r ≡ Some row → known (Address r) ≡ Some a → a % 2 ^ alignment_of row ≡ 0

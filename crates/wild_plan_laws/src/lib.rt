@@ -3,4 +3,4 @@
 
 mod laws;
 
-pub use laws::locations_hold;
+pub use laws::{locations_hold, rows_stand_aligned};
