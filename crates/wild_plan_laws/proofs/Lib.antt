@@ -1,2 +1,2 @@
-pub mod Aligned
 pub mod Growing
+pub mod Standing

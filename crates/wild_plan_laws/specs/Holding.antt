@@ -1,5 +1,5 @@
 -- What holds of a finished layout.
-use Rattle.std.specs.Prelude.{◌≡◌, ℕ, ◌%◌, ◌^◌, List, [], Some, Ok, slice_get}
+use Rattle.std.specs.Prelude.{◌≡◌, ℕ, ◌+◌, ◌%◌, ◌^◌, ◌<◌, List, [], Some, Ok, slice_get}
 use Rattle.wild_expression_tree.specs.declared.tree.Expression.{Expression}
 use Rattle.wild_script.specs.Tree.{Bytes}
 use Rattle.wild_script.specs.declared.tree.LinkerScript.{LinkerScript}
@@ -19,6 +19,11 @@ pub record Holds (script : Bytes) (t : LinkerScript) (inputs : InputTable) (stat
   pub index : ℕ
   pub listed : slice_get state.locations index ≡ Some (record { statement = i; address = address })
 
--- each row whose address is known stands at a multiple of its alignment
-abbrev pub StandAligned : List InputRow → Known → Type 0
-StandAligned rows known = (r : ℕ) (row : InputRow) (a : ℕ) → slice_get rows r ≡ Some row → known (Address r) ≡ Some a → a % 2 ^ alignment_of row ≡ 0
+-- it is a multiple of the row's alignment, and the row ends below 2 ^ 64
+pub record IsPlaceOf (row : InputRow) (address : ℕ) : Type 0 where
+  pub aligned : address % 2 ^ alignment_of row ≡ 0
+  pub ends : address + row.size < 2 ^ 64
+
+-- each row whose address is known has such a place
+abbrev pub StandInPlace : List InputRow → Known → Type 0
+StandInPlace rows known = (r : ℕ) (row : InputRow) (a : ℕ) → slice_get rows r ≡ Some row → known (Address r) ≡ Some a → IsPlaceOf row a

@@ -2,7 +2,7 @@
 
 ghost use Rattle.std.specs.Prelude.{◌≡◌, ℕ, Some, slice_get};
 ghost use Rattle.wild_expression_tree.specs.declared.tree.Expression.{Expression};
-ghost use Rattle.wild_plan_laws.specs.Holding.{Holds, StandAligned};
+ghost use Rattle.wild_plan_laws.specs.Holding.{Holds, StandInPlace};
 ghost use Rattle.wild_plan_spec.specs.declared.row.InputTable.{InputTable};
 ghost use Rattle.wild_plan_spec.specs.Fit.{IsLaid};
 ghost use Rattle.wild_plan_spec.specs.Line.{State};
@@ -17,7 +17,8 @@ pub fn locations_hold()
         → (i : ℕ) (e : Expression) → slice_get (places_of t inputs) i ≡ Some (SetLocation e) → Holds script t inputs state i e }
 {}
 
-/// Where all places are laid out, each row whose address is known stands at a multiple of its alignment.
-pub fn rows_stand_aligned()
-    ensures { (script : Bytes) (t : LinkerScript) (inputs : InputTable) (state : State) → IsLaid script t inputs state → StandAligned inputs.rows state.known }
+/// Where all places are laid out, each row whose address is known stands at a multiple of its alignment and ends below
+/// 2 ^ 64.
+pub fn rows_stand_in_place()
+    ensures { (script : Bytes) (t : LinkerScript) (inputs : InputTable) (state : State) → IsLaid script t inputs state → StandInPlace inputs.rows state.known }
 {}

@@ -3,4 +3,4 @@
 
 mod laws;
 
-pub use laws::{locations_hold, rows_stand_aligned};
+pub use laws::{locations_hold, rows_stand_in_place};

@@ -1,4 +1,3 @@
-pub mod Bounds
 pub mod Ordered
 pub mod RowOrder
 pub mod Standing

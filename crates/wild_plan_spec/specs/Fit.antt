@@ -1,14 +1,12 @@
 -- Which plan fits a script and its table, and which fault stands there instead.
-use Rattle.std.specs.Prelude.{◌≡◌, ◌⊎◌, ℕ, ◌+◌, ◌^◌, ◌<◌, List, Some, None, Ok, Err, length, slice_get}
+use Rattle.std.specs.Prelude.{◌≡◌, ◌⊎◌, List, Some, None, Ok, Err, length}
 use Rattle.wild_base.specs.declared.fault.Fault.{Fault}
 use Rattle.wild_script.specs.Tree.{Bytes, tree, IsParseFault}
 use Rattle.wild_script.specs.declared.tree.LinkerScript.{LinkerScript}
 use Rattle.wild_plan_spec.specs.declared.chunk.Chunk.{Chunk}
 use Rattle.wild_plan_spec.specs.declared.chunk.ChunkRow.{ChunkRow}
 use Rattle.wild_plan_spec.specs.declared.placed.PlacedSymbol.{PlacedSymbol}
-use Rattle.wild_plan_spec.specs.declared.row.InputRow.{InputRow}
 use Rattle.wild_plan_spec.specs.declared.row.InputTable.{InputTable}
-use Rattle.wild_value_spec.specs.Known.{Known, Address}
 use Rattle.wild_plan_spec.specs.Fates.{fates_of}
 use Rattle.wild_plan_spec.specs.Settings.{setting_of}
 use Rattle.wild_plan_spec.specs.Chunks.{rows_in}
@@ -19,10 +17,6 @@ use Rattle.wild_plan_spec.specs.Line.{State}
 use Rattle.wild_plan_spec.specs.Walk.{Stands, Refuses}
 use Rattle.wild_plan_spec.specs.End.{finished}
 use Rattle.wild_plan_spec.specs.Layout.{Layout, layout}
-
--- each row whose address is known ends below 2 ^ 64
-abbrev pub EndInBounds : List InputRow → Known → Type 0
-EndInBounds rows known = (r : ℕ) (row : InputRow) (a : ℕ) → slice_get rows r ≡ Some row → known (Address r) ≡ Some a → a + row.size < 2 ^ 64
 
 module _ (script : Bytes) (t : LinkerScript) (inputs : InputTable) where
   -- the rows of each chunk, in their order

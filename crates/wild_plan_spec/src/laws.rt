@@ -8,8 +8,7 @@ ghost use Rattle.wild_plan_spec.specs.declared.chunk.ChunkRow.{ChunkRow};
 ghost use Rattle.wild_plan_spec.specs.declared.row.InputTable.{InputTable};
 ghost use Rattle.wild_plan_spec.specs.Order.{IsOrdered, stands_before};
 ghost use Rattle.wild_plan_spec.specs.Layout.{Layout};
-ghost use Rattle.wild_plan_spec.specs.Fit.{IsLaid, Fits, FaultIn, EndInBounds};
-ghost use Rattle.wild_plan_spec.specs.Line.{State};
+ghost use Rattle.wild_plan_spec.specs.Fit.{Fits, FaultIn};
 
 /// The rows of a chunk have one order.
 pub fn rows_have_one_order()
@@ -29,9 +28,4 @@ pub fn plan_or_fault()
 /// A script and its table have one fault at most.
 pub fn one_fault()
     ensures { (script : Bytes) (t : LinkerScript) (inputs : InputTable) (fault other : Fault) → FaultIn script t inputs fault → FaultIn script t inputs other → other ≡ fault }
-{}
-
-/// Where all places are laid out, each row whose address is known ends below 2 ^ 64.
-pub fn rows_end_in_bounds()
-    ensures { (script : Bytes) (t : LinkerScript) (inputs : InputTable) (state : State) → IsLaid script t inputs state → EndInBounds inputs.rows state.known }
 {}

@@ -8,7 +8,7 @@ mod placed;
 mod row;
 
 pub use chunk::{Chunk, ChunkRow, Decision};
-pub use laws::{one_fault, one_plan_fits, plan_or_fault, rows_end_in_bounds, rows_have_one_order};
+pub use laws::{one_fault, one_plan_fits, plan_or_fault, rows_have_one_order};
 pub use options::PlanOptions;
 pub use placed::{Names, PlacedInput, PlacedLocation, PlacedSection, PlacedSymbol, RowNames};
 pub use row::{InputRow, InputRows, InputTable, SymbolRow, SymbolRows};
