@@ -64,8 +64,22 @@ impl SectionRules {
     ) -> SectionRuleOutcome
         ensures { result ≡ (if H.should_exclude header.now then sends.Discard
             else spec.sent (spec.first_rule self.now section_name.now (option_copied file_name.entry)) section_name.now
-            (unnamed_outcome (record { text = P.TEXT_SECTION_ID; data_section = P.DATA_SECTION_ID; bss = P.BSS_SECTION_ID; rodata = P.RODATA_SECTION_ID; tdata = P.TDATA_SECTION_ID; tbss = P.TBSS_SECTION_ID })
-            (record { alloc = H.is_alloc header.now; prog_bits = H.is_prog_bits header.now; no_bits = H.is_no_bits header.now; executable = H.is_executable header.now; writable = H.is_writable header.now; tls = H.is_tls header.now }))) }
+            (unnamed_outcome (record {
+              text = P.TEXT_SECTION_ID;
+              data_section = P.DATA_SECTION_ID;
+              bss = P.BSS_SECTION_ID;
+              rodata = P.RODATA_SECTION_ID;
+              tdata = P.TDATA_SECTION_ID;
+              tbss = P.TBSS_SECTION_ID;
+            })
+            (record {
+              alloc = H.is_alloc header.now;
+              prog_bits = H.is_prog_bits header.now;
+              no_bits = H.is_no_bits header.now;
+              executable = H.is_executable header.now;
+              writable = H.is_writable header.now;
+              tls = H.is_tls header.now;
+            }))) }
     {
         if header.should_exclude() {
             return SectionRuleOutcome::Discard;
