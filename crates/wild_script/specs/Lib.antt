@@ -1,4 +1,6 @@
 pub mod Assignment
+pub mod Contents
+pub mod Matcher
 pub mod Outermost
 pub mod Pattern
 pub mod Provide

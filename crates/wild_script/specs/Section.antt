@@ -1,39 +1,21 @@
--- Output sections and what stands in them.
-use Rattle.std.specs.Prelude.{ℕ, Bool, not, ◌||◌, List, [], None, false, codes}
+-- Output sections, and the other statements of SECTIONS.
+use Rattle.std.specs.Prelude.{ℕ, Bool, not, ◌||◌, List, []}
 use Rattle.std.specs.Str.{bytes_eq}
 use Rattle.wild_reading.specs.Place.{Bytes}
 use Rattle.wild_reading.specs.Bytes.{begins}
-use Rattle.wild_reading.specs.Reader.{Reader, ◌>>=◌, ◌>>◌, Give, check, Ahead, Choice, If, Until}
+use Rattle.wild_reading.specs.Reader.{Reader, ◌>>=◌, ◌>>◌, Give, check, Ahead, Choice, If}
 use Rattle.wild_reading.specs.Lex.{word, symbol, optional_symbol}
 use Rattle.wild_expression.specs.Parts.{assert_body}
 use Rattle.wild_script.specs.Words.{is_assert, is_provide, is_provide_hidden}
 use Rattle.wild_script.specs.Assignment.{is_dot, begins_assignment, closed_value}
 use Rattle.wild_script.specs.Provide.{provided}
-use Rattle.wild_script.specs.Pattern.{pattern_list}
-use Rattle.wild_script.specs.declared.tree.ContentsCommand.{ContentsCommand}
-use Rattle.wild_script.specs.declared.tree.ContentsCommand.TheVariants.{Matcher}
+use Rattle.wild_script.specs.Contents.{contents}
 use Rattle.wild_script.specs.declared.tree.SectionCommand.{SectionCommand}
 use Rattle.wild_script.specs.declared.tree.SectionCommand.TheVariants as command
 
--- `*`, quoted or not
-unfoldable pub is_every_file : Bytes → Bool
-is_every_file content = bytes_eq content (codes "*")
-
--- a matcher of every file: a star, names in brackets, and a semicolon or none
-unfoldable pub contents_statement : Reader ContentsCommand
-contents_statement = do
-  file ← word
-  check (is_every_file file.content)
-  names ← pattern_list
-  optional_symbol 59
-  Give (Matcher (record { must_keep = false; input_file_pattern = None; input_section_name_patterns = names }))
-
-unfoldable pub contents : Reader (List ContentsCommand)
-contents = Until (begins 125) contents_statement
-
--- a name that isn't empty and isn't that of what is thrown away
+-- not empty
 unfoldable pub is_section_name : Bytes → Bool
-is_section_name name = not (bytes_eq name [] || bytes_eq name (codes "/DISCARD/"))
+is_section_name name = not (bytes_eq name [])
 
 -- none of the bytes with which headers, a region or a fill begin
 unfoldable pub has_no_tail : Bytes → ℕ → Bool
@@ -42,7 +24,7 @@ has_no_tail b i = not (begins 58 b i || begins 62 b i || begins 61 b i)
 unfoldable pub no_tail : Reader (Unit {0})
 no_tail = Ahead has_no_tail
 
--- behind a name: a colon, and matchers in braces; a comma or none
+-- behind a name: a colon, and statements in braces; a comma or none
 unfoldable pub section : List ℕ → Reader SectionCommand
 section name = do
   check (is_section_name name)

@@ -2,6 +2,8 @@
 #![tactic(auto)]
 
 mod assignment;
+mod contents;
+mod matcher;
 mod outermost;
 mod parse;
 mod pattern;

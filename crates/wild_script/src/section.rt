@@ -6,59 +6,21 @@ ghost use Rattle.wild_reading.specs.Place.{ahead};
 ghost use Rattle.wild_script.specs.Section as spec;
 
 use crate::assignment::{begins_assignment, closed_value, is_dot};
-use crate::pattern::pattern_list;
+use crate::contents::contents;
 use crate::provide::provided;
-use crate::tree::{ContentsCommand, Location, Matcher, Section, SectionCommand, SymbolAssignment};
+use crate::tree::{Location, Section, SectionCommand, SymbolAssignment};
 use crate::words::{is_assert, is_provide, is_provide_hidden};
-use sqlite_items::{Boxed, Items};
+use sqlite_items::Boxed;
 use std::alloc::Global;
 use wild_base::Name;
 use wild_expression::assert_body;
-use wild_reading::{Cursor, Grammar, Stop, read_until};
-
-#[tactic(auto, unfolding(crate::specs::Section::is_every_file))]
-fn is_every_file(content: &[u8]) -> bool
-    ensures { result ≡ spec.is_every_file content.now }
-{
-    content == b"*".as_slice()
-}
-
-#[tactic(auto, using(wild_reading::proofs::Readers::reading), unfolding(crate::specs::Section::contents_statement))]
-fn contents_statement(cursor: &mut Cursor<'_>, alloc: Global) -> Result<ContentsCommand, Stop>
-    ensures read { Answers spec.contents_statement cursor.old cursor.new result }
-    ensures shorter { OnOk result (ahead cursor.new < ahead cursor.old) }
-{
-    let file = cursor.word()?;
-    cursor.check(is_every_file(file.content()))?;
-    let input_section_name_patterns = pattern_list(cursor, alloc)?;
-    cursor.optional_symbol(b';')?;
-    Ok(ContentsCommand::Matcher(Matcher {
-        must_keep: false,
-        input_file_pattern: None,
-        input_section_name_patterns,
-    }))
-}
-
-impl Grammar for ContentsCommand {
-    ghost reads = { spec.contents_statement };
-
-    fn read(cursor: &mut Cursor<'_>, alloc: Global) -> Result<ContentsCommand, Stop> {
-        contents_statement(cursor, alloc)
-    }
-}
-
-#[tactic(auto, unfolding(crate::specs::Section::contents))]
-fn contents(cursor: &mut Cursor<'_>, alloc: Global) -> Result<Items<ContentsCommand>, Stop>
-    ensures { Answers spec.contents cursor.old cursor.new result }
-{
-    read_until(cursor, alloc, b'}')
-}
+use wild_reading::{Cursor, Grammar, Stop};
 
 #[tactic(auto, unfolding(crate::specs::Section::is_section_name))]
 fn is_section_name(name: &[u8]) -> bool
     ensures { result ≡ spec.is_section_name name.now }
 {
-    !(name == b"".as_slice() || name == b"/DISCARD/".as_slice())
+    !(name == b"".as_slice())
 }
 
 #[tactic(auto, unfolding(crate::specs::Section::has_no_tail))]

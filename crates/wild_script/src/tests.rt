@@ -1,6 +1,6 @@
 use crate::{
-    Command, ContentsCommand, LinkerScript, ProvideSymbolDefinition, Section, SectionCommand,
-    Sections, skip_comments_and_whitespace,
+    Command, ContentsCommand, LinkerScript, Matcher, ProvideSymbolDefinition, Section,
+    SectionCommand, SectionPattern, Sections, skip_comments_and_whitespace,
 };
 use std::alloc::{AllocError, Global};
 use std::test::Fail;
@@ -13,17 +13,37 @@ fn push_name(out: &mut String, name: &Name) -> Result<(), AllocError> {
     Ok(())
 }
 
+fn push_pattern(out: &mut String, pattern: &SectionPattern) -> Result<(), AllocError> {
+    push_name(out, &pattern.name)?;
+    if pattern.sorted {
+        out.push('^')?;
+    }
+    out.push(' ')
+}
+
+// A mark where it is kept, the file pattern, and the patterns in brackets.
+fn push_matcher(out: &mut String, matcher: &Matcher) -> Result<(), AllocError> {
+    if matcher.must_keep {
+        out.push('k')?;
+    }
+    if let Some(file) = &matcher.input_file_pattern {
+        out.push('<')?;
+        push_name(out, file)?;
+        out.push('>')?;
+    }
+    out.push('(')?;
+    for pattern in matcher.input_section_name_patterns.as_slice() {
+        push_pattern(out, pattern)?;
+    }
+    out.push(')')
+}
+
 fn push_section(out: &mut String, section: &Section) -> Result<(), AllocError> {
     push_name(out, &section.output_section_name)?;
     out.push(':')?;
     for command in section.commands.as_slice() {
         let ContentsCommand::Matcher(matcher) = command;
-        out.push('(')?;
-        for pattern in matcher.input_section_name_patterns.as_slice() {
-            push_name(out, &pattern.name)?;
-            out.push(' ')?;
-        }
-        out.push(')')?;
+        push_matcher(out, matcher)?;
     }
     out.push(';')
 }
@@ -66,7 +86,7 @@ fn push_command(out: &mut String, command: &Command) -> Result<(), AllocError> {
     }
 }
 
-// The commands, their statements, matchers and names, or the position of the fault.
+// The commands, their statements, matchers and patterns, or the position of the fault.
 fn outline(alloc: Global, text: &[u8]) -> Result<String, AllocError> {
     let mut out = String::new(alloc);
     match LinkerScript::parse(alloc, text) {
@@ -78,13 +98,14 @@ fn outline(alloc: Global, text: &[u8]) -> Result<String, AllocError> {
         }
         Err(Fault::Syntax { position }) => format!(in alloc; "syntax {position}"),
         Err(Fault::UnclosedComment { position }) => format!(in alloc; "unclosed {position}"),
+        Err(Fault::UnsupportedNestedSort { position }) => format!(in alloc; "nested {position}"),
         Err(_) => String::from_str(alloc, "other"),
     }
 }
 
 #[test]
 fn outlines(rt: HostRuntime) -> Result<(), Fail> {
-    let cases: [(&[u8], &str); 24] = [
+    let cases: [(&[u8], &str); 22] = [
         (b"", ""),
         (b"/*/", ""),
         (b" # a line\n/* and more */\t\r\n", ""),
@@ -114,10 +135,122 @@ fn outlines(rt: HostRuntime) -> Result<(), Fail> {
         (b"SECTIONS { .a : { } : h }", "syntax 20"),
         (b"SECTIONS { \"\" : { } }", "syntax 14"),
         (b"SECTIONS { ASSERT : { } }", "syntax 18"),
-        (b"SECTIONS { /DISCARD/ : { } }", "syntax 21"),
-        (b"SECTIONS { .a : { *(.t*) } }", "syntax 23"),
-        (b"SECTIONS { .a : { *(SORTED) } }", "syntax 26"),
-        (b"SECTIONS { .a : { f.o(.a) } }", "syntax 21"),
+        (b"SECTIONS { /DISCARD/ : { *(.a) } }", "/DISCARD/:(.a );."),
+        (b"SECTIONS { \"/DISCARD/\" : { } }", "/DISCARD/:;."),
+    ];
+    for (text, expected) in cases {
+        assert_eq!(rt; outline(rt.alloc(), text)?.as_str(), expected, "{text:?}");
+    }
+    Ok(())
+}
+
+#[test]
+fn matchers(rt: HostRuntime) -> Result<(), Fail> {
+    let cases: [(&[u8], &str); 23] = [
+        (b"SECTIONS { .a : { f.o(.a) } }", ".a:<f.o>(.a );."),
+        (
+            b"SECTIONS { .a : { *lib*.a (.a) ; \"a b\"(.b); } }",
+            ".a:<*lib*.a>(.a )<a b>(.b );.",
+        ),
+        (
+            b"SECTIONS { .a : { \"\"(.a) ** (.b) } }",
+            ".a:<>(.a )<**>(.b );.",
+        ),
+        (b"SECTIONS { .a : { f.o/**/(.a) } }", ".a:<f.o/**/>(.a );."),
+        (
+            b"SECTIONS { .a : { KEEP(*(.a .b)) KEEP (f.o /* x */ (.c) ) ; } }",
+            ".a:k(.a .b )k<f.o>(.c );.",
+        ),
+        (
+            b"SECTIONS { .a : { KEEP(\"*\"(.a)) *(.b) } }",
+            ".a:k(.a )(.b );.",
+        ),
+        (b"SECTIONS { .a : { KEEP(\"\"()) } }", ".a:k<>();."),
+        (b"SECTIONS { .a : { KEEP(KEEP(.a)) } }", ".a:k<KEEP>(.a );."),
+        (b"SECTIONS { .a : { \"KEEP\"(.a) } }", ".a:<KEEP>(.a );."),
+        (b"SECTIONS { .a : { KEEP( *(.a)) } }", "syntax 23"),
+        (b"SECTIONS { .a : { KEEP(/**/ *(.a)) } }", "syntax 28"),
+        (b"SECTIONS { .a : { KEEP(*) } }", "syntax 24"),
+        (b"SECTIONS { .a : { KEEP(*(.a) } }", "syntax 29"),
+        (b"SECTIONS { .a : { KEEP(*(.a);) } }", "syntax 28"),
+        (b"SECTIONS { .a : { KEEP } }", "syntax 23"),
+        (
+            b"SECTIONS { .a : { CONSTRUCTORS(.a) } }",
+            ".a:<CONSTRUCTORS>(.a );.",
+        ),
+        (b"SECTIONS { .a : { CONSTRUCTORS } }", "syntax 31"),
+        (
+            b"SECTIONS { .a : { \"PROVIDE\"(.a) \"ASSERT\"() } }",
+            ".a:<PROVIDE>(.a )<ASSERT>();.",
+        ),
+        (b"SECTIONS { .a : { PROVIDE(x = 1); } }", "syntax 25"),
+        (
+            b"SECTIONS { .a : { PROVIDE_HIDDEN (x = 1); } }",
+            "syntax 33",
+        ),
+        (b"SECTIONS { .a : { ASSERT(1, m) } }", "syntax 24"),
+        (b"SECTIONS { .a : { x = 1; } }", "syntax 20"),
+        (b"SECTIONS { .a : { BYTE(1) } }", ".a:<BYTE>(1 );."),
+    ];
+    for (text, expected) in cases {
+        assert_eq!(rt; outline(rt.alloc(), text)?.as_str(), expected, "{text:?}");
+    }
+    Ok(())
+}
+
+#[test]
+fn patterns(rt: HostRuntime) -> Result<(), Fail> {
+    let cases: [(&[u8], &str); 23] = [
+        (
+            b"SECTIONS { .a : { *(.t* [a-c]? \\*) } }",
+            ".a:(.t* [a-c]? \\* );.",
+        ),
+        (
+            b"SECTIONS { .a : { *(SORT(.t.*) .u) } }",
+            ".a:(.t.*^ .u );.",
+        ),
+        (
+            b"SECTIONS { .a : { *(SORT_BY_NAME(.a) SORT_BY_ALIGNMENT(.b) SORT(.c)) } }",
+            ".a:(.a^ .b .c^ );.",
+        ),
+        (
+            b"SECTIONS { .a : { *(SORT /* x */ ( .a /* y */ ) /**/ SORT(.b)SORT(.c).d) } }",
+            ".a:(.a^ .b^ .c^ .d );.",
+        ),
+        (b"SECTIONS { .a : { KEEP(*(SORT(.a))) } }", ".a:k(.a^ );."),
+        (b"SECTIONS { .a : { *(.aSORT(.b) } }", ".a:(.aSORT(.b );."),
+        (b"SECTIONS { .a : { *(sort(.b) } }", ".a:(sort(.b );."),
+        (
+            b"SECTIONS { .a : { *(SORT(sort(.b)) } }",
+            ".a:(sort(.b^ );.",
+        ),
+        (
+            b"SECTIONS { .a : { *(SORT( SORT(.b)) } }",
+            ".a:(SORT(.b^ );.",
+        ),
+        (b"SECTIONS { .a : { *(SORT( SORT)) } }", ".a:(SORT^ );."),
+        (
+            b"SECTIONS { .text : { *(SORT(SORT_BY_ALIGNMENT(.text.*))) } }",
+            "nested 28",
+        ),
+        (
+            b"SECTIONS { .a : { *(SORT_BY_NAME (SORTED)) } }",
+            "nested 34",
+        ),
+        (b"SECTIONS { .a : { *(.a) *(SORT(SORT /* open", "nested 31"),
+        (b"SECTIONS { .a : { *(SORTED) } }", "syntax 24"),
+        (b"SECTIONS { .a : { *(SORT) } }", "syntax 24"),
+        (b"SECTIONS { .a : { *(SORT_NONE(.a)) } }", "syntax 24"),
+        (b"SECTIONS { .a : { *(SORT_BY_NAMES(.a)) } }", "syntax 32"),
+        (
+            b"SECTIONS { .a : { *(SORT_BY_ALIGNMENT .a) } }",
+            "syntax 38",
+        ),
+        (b"SECTIONS { .a : { *(SORT()) } }", "syntax 25"),
+        (b"SECTIONS { .a : { *(SORT(.a .b)) } }", "syntax 28"),
+        (b"SECTIONS { .a : { *(SORT(.a", "syntax 27"),
+        (b"SECTIONS { .a : { *(SORT(/* open", "unclosed 25"),
+        (b"SECTIONS { .a : { *(.a\x0c) } }", "syntax 22"),
     ];
     for (text, expected) in cases {
         assert_eq!(rt; outline(rt.alloc(), text)?.as_str(), expected, "{text:?}");

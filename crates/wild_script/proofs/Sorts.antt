@@ -1,0 +1,91 @@
+-- A sort word directly in the brackets of another.
+use Rattle.std.proofs.Common.{◌≡◌, ℕ, ◌≤◌, true, false, List, [], ◌∷◌, length, refl, sym, subst, ap}
+use Rattle.std.specs.Prelude.{Err}
+use Rattle.wild_reading.specs.Place.{Bytes, Text, Place}
+use Rattle.wild_reading.specs.Reader.{yes, no, Until, none, more}
+use Rattle.wild_reading.specs.Lex.{white, byte, rest_of_line, line, comment, line_or_comment, ends_gap, stretch, stretches, gap, sort_bracket}
+use Rattle.wild_reading.specs.Only.{IsOnly, Refuses, Answers, IsNestedSort}
+use Rattle.wild_reading.specs.declared.stop.Stop.{Stop}
+use Rattle.wild_reading.specs.declared.stop.Stop.TheVariants.{NestedSort}
+use Rattle.wild_reading.proofs.Readers.{bind_only, bind_refuses, bind_then_refuses, ahead_only, answers_ok, answers_refused, answers_err}
+use Rattle.wild_script.specs.Pattern.{begins_sort, has_no_sort, no_sort, sort_open}
+
+-- ---- what has no depth is read at any limit
+
+white_at : (b : Bytes) (limit other i : ℕ) (j : ℕ) → white b limit i tt j → white b other i tt j
+unfolding white
+white_at b limit other i j h = record { found = h.found }
+
+part_at : (b : Bytes) (limit other i : ℕ) (j : ℕ) → line_or_comment b limit i tt j → line_or_comment b other i tt j
+unfolding line_or_comment line byte rest_of_line comment
+part_at b limit other i j (yes t h) = yes t (record { value = tt; middle = h.middle; first = record { found = h.first.found }; second = record { found = h.second.found } })
+part_at b limit other i j (no t h) = no t (record { found = h.found })
+
+stretch_at : (b : Bytes) (limit other i : ℕ) (j : ℕ) → stretch b limit i tt j → stretch b other i tt j
+unfolding stretch
+stretch_at b limit other i j h = record { value = tt; middle = h.middle; first = part_at b limit other i h.middle h.first; second = white_at b limit other h.middle j h.second }
+
+all_at : (b : Bytes) (limit other i : ℕ) (xs : List (Unit {0})) (j : ℕ) → Until ends_gap stretch b limit i xs j → Until ends_gap stretch b other i xs j
+all_at b limit other i [] j (none t) = none t
+all_at b limit other i (x ∷ xs) j (more {m = m} t h u) = more t (stretch_at b limit other i m h) (all_at b limit other m xs j u)
+
+gap_at : (b : Bytes) (limit other i : ℕ) (j : ℕ) → gap b limit i tt j → gap b other i tt j
+unfolding gap stretches
+gap_at b limit other i j h = record {
+  value = tt;
+  middle = h.middle;
+  first = white_at b limit other i h.middle h.first;
+  second = record {
+    value = h.second.value;
+    middle = h.second.middle;
+    first = all_at b limit other h.middle h.second.value h.second.middle h.second.first;
+    second = record { value = refl; end = h.second.second.end };
+  };
+}
+
+bracket_at : (b : Bytes) (limit other i : ℕ) (j : ℕ) → sort_bracket b limit i tt j → sort_bracket b other i tt j
+unfolding sort_bracket byte
+bracket_at b limit other i j h = record {
+  value = tt;
+  middle = h.middle;
+  first = record { found = h.first.found };
+  second = record {
+    value = tt;
+    middle = h.second.middle;
+    first = gap_at b limit other h.middle h.second.middle h.second.first;
+    second = record { found = h.second.second.found };
+  };
+}
+
+-- ---- a sort word and its bracket
+
+module _ {s m : Place} {x : Unit {0}} (p : IsOnly sort_bracket s x m) where
+  same_bytes : m.text.bytes ≡ s.text.bytes
+  same_bytes = ap (λ (n : Text). n.bytes) p.text
+
+  nested : m.at ≤ length m.text.bytes → begins_sort m.text.bytes m.at ≡ true → IsNestedSort m.text.bytes m.at
+  unfolding begins_sort
+  nested w t = record {
+    within = w;
+    sorts = t;
+    word = s.at;
+    bracket = subst (λ (b : Bytes). sort_bracket b 0 s.at tt m.at) (sym same_bytes) (bracket_at s.text.bytes s.left 0 s.at m.at p.reads);
+  }
+
+  followed : m.at ≤ length m.text.bytes → begins_sort m.text.bytes m.at ≡ true → Refuses no_sort m (NestedSort m.at)
+  unfolding no_sort has_no_sort
+  followed w t = record { none = λ e y j h. cc (t, h.holds); never = λ e limit y j h. cc (t, h.holds); cause = nested w t }
+
+  pub nested_answers : begins_sort m.text.bytes m.at ≡ true → {position : ℕ} → position ≡ m.at → position ≤ length m.text.bytes → {r : Place} → Answers sort_open s r (Err (NestedSort position))
+  unfolding sort_open
+  nested_answers t e w = rw e (answers_refused (bind_then_refuses p (followed (subst (λ (n : ℕ). n ≤ length m.text.bytes) e w) t)))
+
+  pub sort_opens : begins_sort m.text.bytes m.at ≡ false → IsOnly sort_open s tt m
+  unfolding sort_open no_sort has_no_sort
+  sort_opens f = bind_only p (ahead_only (rw f refl))
+
+pub bracket_refuses : {s : Place} {stop : Stop} → Refuses sort_bracket s stop → Refuses sort_open s stop
+unfolding sort_open
+bracket_refuses p = bind_refuses p
+
+pub ruleset opening = (sort_opens, nested_answers, bracket_refuses, answers_ok, answers_err)

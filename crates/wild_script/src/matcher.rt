@@ -1,0 +1,79 @@
+//! Reads matchers of input sections.
+
+ghost use Rattle.std.specs.Prelude.{◌≡◌, IfOk};
+ghost use Rattle.wild_reading.specs.Only.{Answers};
+ghost use Rattle.wild_script.specs.Matcher as spec;
+
+use crate::pattern::pattern_list;
+use crate::tree::Matcher;
+use std::alloc::Global;
+use wild_base::{Name, NoMemory};
+use wild_reading::{Cursor, Stop, Token};
+
+#[tactic(auto, unfolding(crate::specs::Matcher::is_every_file))]
+fn is_every_file(content: &[u8]) -> bool
+    ensures { result ≡ spec.is_every_file content.now }
+{
+    content == b"*".as_slice()
+}
+
+#[tactic(auto, unfolding(crate::specs::Matcher::file_pattern))]
+fn file_pattern(alloc: Global, content: &[u8]) -> Result<Option<Name>, NoMemory>
+    ensures { IfOk result (λ x. x ≡ spec.file_pattern content.now) }
+{
+    if is_every_file(content) {
+        Ok(None)
+    } else {
+        Ok(Some(Name::new(alloc, content)?))
+    }
+}
+
+#[tactic(auto, unfolding(crate::specs::Matcher::is_keep))]
+fn is_keep(word: &Token<'_>) -> bool
+    ensures { result ≡ spec.is_keep word.now }
+{
+    !word.is_quoted() && word.content() == b"KEEP".as_slice()
+}
+
+// What stands behind the token of the file.
+#[tactic(auto, using(wild_reading::proofs::Readers::reading), unfolding(crate::specs::Matcher::file_matcher))]
+fn file_matcher(
+    cursor: &mut Cursor<'_>,
+    alloc: Global,
+    must_keep: bool,
+    file: &[u8],
+) -> Result<Matcher, Stop>
+    ensures { Answers (spec.file_matcher must_keep file.now) cursor.old cursor.new result }
+{
+    let input_section_name_patterns = pattern_list(cursor, alloc)?;
+    let input_file_pattern = file_pattern(alloc, file)?;
+    Ok(Matcher {
+        must_keep,
+        input_file_pattern,
+        input_section_name_patterns,
+    })
+}
+
+// What stands behind KEEP.
+#[tactic(auto, using(wild_reading::proofs::Readers::reading), unfolding(crate::specs::Matcher::keep_matcher))]
+fn keep_matcher(cursor: &mut Cursor<'_>, alloc: Global) -> Result<Matcher, Stop>
+    ensures { Answers spec.keep_matcher cursor.old cursor.new result }
+{
+    cursor.byte(b'(')?;
+    let file = cursor.word()?;
+    let matcher = file_matcher(cursor, alloc, true, file.content())?;
+    cursor.symbol(b')')?;
+    Ok(matcher)
+}
+
+/// Reads what stands behind the first token of a matcher.
+#[tactic(auto, using(wild_reading::proofs::Readers::choosing), unfolding(crate::specs::Matcher::matcher))]
+pub fn matcher(cursor: &mut Cursor<'_>, alloc: Global, first: &Token<'_>) -> Result<Matcher, Stop>
+    ensures { Answers (spec.matcher first.now) cursor.old cursor.new result }
+{
+    if is_keep(first) {
+        keep_matcher(cursor, alloc)
+    } else {
+        file_matcher(cursor, alloc, false, first.content())
+    }
+}
