@@ -21,6 +21,8 @@ pub use wild_table::{TableFault, read_flags, read_number, read_table};
 pub use words::{Request, WordsFault, read_words};
 
 #[cfg(test)]
+mod pattern_tests;
+#[cfg(test)]
 mod plan_tests;
 #[cfg(test)]
 mod tests;

@@ -1,31 +1,28 @@
 -- What the parts of a plan answer makes what the whole answers.
-use Rattle.std.proofs.Common.{◌≡◌, ◌∙◌, ◌++◌, ◌+◌, ◌-◌, ℕ, suc, arith, Option, List, [], ◌∷◌, length, None, Ok, Err, refl, sym, ap, subst, inl, inr, ⊎_elim}
+use Rattle.std.proofs.Common.{◌≡◌, ◌∙◌, ◌++◌, ℕ, Option, List, [], ◌∷◌, length, None, Ok, Err, refl, sym, ap, subst, inl, inr, ⊎_elim}
 use denote.Ref.{Bor}
-use Rattle.std.proofs.lemmas.List.{length-append}
 use Rattle.wild_base.specs.declared.fault.Fault.{Fault}
-use Rattle.wild_base.specs.declared.fault.Fault.TheVariants.{Syntax, UnclosedComment, UnsupportedNestedSort, TooDeep, DuplicateSection, DuplicateSymbol}
+use Rattle.wild_base.specs.declared.fault.Fault.TheVariants.{Syntax, UnclosedComment, UnsupportedNestedSort, TooDeep, DuplicateSymbol}
 use Rattle.wild_script.specs.Tree.{Bytes, tree, IsTree, IsParseFault}
 use Rattle.wild_script.specs.declared.tree.LinkerScript.{LinkerScript}
-use Rattle.wild_script.specs.declared.tree.Section.{Section}
 use Rattle.wild_value_spec.specs.Known.{Known}
 use Rattle.wild_value_spec.specs.Setting.{Setting}
 use Rattle.wild_eval.specs.declared.names.Entry as borrowed
 use Rattle.wild_eval.specs.Table.{known_of}
 use Rattle.wild_plan_spec.specs.declared.chunk.Chunk.{Chunk}
+use Rattle.wild_plan_spec.specs.declared.chunk.Kept.{Kept}
 use Rattle.wild_plan_spec.specs.declared.chunk.ChunkRow.{ChunkRow}
 use Rattle.wild_plan_spec.specs.declared.placed.PlacedSymbol.{PlacedSymbol}
-use Rattle.wild_plan_spec.specs.declared.row.InputRow.{InputRow}
 use Rattle.wild_plan_spec.specs.declared.row.InputTable.{InputTable}
-use Rattle.wild_plan_spec.specs.Statements.{sections_of}
-use Rattle.wild_plan_spec.specs.Rules.{Rule, rules_of}
 use Rattle.wild_plan_spec.specs.Chunks.{section_rows, rows_in}
-use Rattle.wild_plan_spec.specs.Checks.{place_checks, name_checks, support_checks, checks, failing}
+use Rattle.wild_plan_spec.specs.Checks.{script_checks, name_checks, support_checks, checks, failing}
 use Rattle.wild_plan_spec.specs.Definitions.{Entry, entry_names, firm_entries, provided_entries, all_entries}
 use Rattle.wild_plan_spec.specs.Names.{Name}
 use Rattle.wild_plan_spec.specs.Order.{IsOrdered, stands_before}
-use Rattle.wild_plan_spec.specs.Fates.{names_of, orphans, names_asked, orphans_of, section_names, fates_of}
+use Rattle.wild_plan_spec.specs.Fates.{section_names, fates_of}
 use Rattle.wild_plan_spec.specs.Settings.{alignments_of, setting_of}
-use Rattle.wild_plan_spec.specs.Places.{Place, Open, Rows, Close, script_places, places_of, orphan_places}
+use Rattle.wild_plan_spec.specs.Places.{Place}
+use Rattle.wild_plan_spec.specs.Orphans.{places_of}
 use Rattle.wild_plan_spec.specs.Walk.{Stands, Refuses}
 use Rattle.wild_plan_spec.specs.Line.{State}
 use Rattle.wild_plan_spec.specs.End.{finished}
@@ -33,20 +30,20 @@ use Rattle.wild_plan_spec.specs.Layout.{Layout, placed_sections, placed_inputs, 
 use Rattle.wild_plan_spec.specs.Fit.{AreOrdered, IsLaid, Fits, LayoutFault, EndFault, FaultIn, IsPlan, IsLaterFault, IsThePlan, IsTheFault}
 use Rattle.wild_plan_spec.proofs.Unique.{plans_once, plan_or_fault, faults_once}
 use Rattle.wild_plan.specs.declared.planning.Checked.{Checked}
-use Rattle.wild_plan.specs.declared.planning.Placed.{Placed}
+use Rattle.wild_fates.specs.declared.placing.Placed.{Placed}
 use Rattle.wild_plan.specs.declared.planning.Ended.{Ended}
 use Rattle.wild_plan.specs.declared.placement.Lists.{Lists}
 use Rattle.wild_plan.specs.declared.traits.Traits.{Traits}
-use Rattle.wild_plan.specs.Composed.{IsPlacedBy, IsPlaced, IsChecked, IsEnded, IsListed}
+use Rattle.wild_plan.specs.Composed.{IsChecked, IsEnded, IsListed}
+use Rattle.wild_fates.specs.Parts.{IsPlaced}
 use Rattle.wild_plan.specs.Entries.{shown_entries}
 use Rattle.wild_plan.specs.Listed.{alignments_by}
 use Rattle.wild_plan.specs.Moves.{state_of}
-use Rattle.wild_plan.specs.Orphaned.{orphans_from}
-use Rattle.wild_plan.specs.Passes.{IsWanted}
-use Rattle.wild_plan.specs.Pointed.{pointed}
-use Rattle.wild_plan.specs.Shown.{shown}
+use Rattle.wild_fates.specs.Passes.{IsWanted}
+use Rattle.wild_fates.specs.Pointed.{pointed}
+use Rattle.wild_fates.specs.Shown.{shown}
 use Rattle.wild_plan.specs.Traits.{traits_of}
-use Rattle.wild_plan.proofs.Failing.{of_table, places_fail, sections_fail, symbols_fail, support_fails, all_hold}
+use Rattle.wild_plan.proofs.Failing.{of_table, symbols_fail, support_fails, all_hold}
 use Rattle.wild_plan.proofs.Settings.{kept, settings_same}
 use Rattle.wild_plan.proofs.Listed.{sections_same, alignments_same}
 
@@ -54,73 +51,38 @@ entry_names_append : (xs ys : List Entry) → entry_names (xs ++ ys) ≡ entry_n
 entry_names_append [] ys = refl
 entry_names_append (x ∷ xs) ys = ap (λ (ns : List Name). x.name ∷ ns) (entry_names_append xs ys)
 
--- ---- rows
-
-names_length : (xs : List Section) → length (names_of xs) ≡ length xs
-names_length [] = refl
-names_length (x ∷ xs) = ap suc (names_length xs)
-
-orphans_same : (s : ℕ) (xs : List Name) → orphans_from s (length xs) ≡ orphan_places s xs
-orphans_same s [] = refl
-orphans_same s (x ∷ xs) = ap (λ (ps : List Place). Open s ∷ Rows (record { «section» = s; number = 0 }) ∷ Close s None ∷ ps) (orphans_same (s + 1) xs)
-
-both_lengths : (xs ys : List Name) → length (xs ++ ys) - length xs ≡ length ys
-both_lengths xs ys = let e = length-append xs ys in omega (arith, e)
-
-module _ (t : LinkerScript) (inputs : InputTable) (ps : List Place) (rules : List Rule) (own : List Name) (rows : List InputRow) (placed : Placed) (by : IsPlacedBy ps rules own rows placed)
-    (in_places : ps ≡ script_places t) (in_rules : rules ≡ rules_of t) (in_names : own ≡ names_of (sections_of t)) (in_rows : rows ≡ inputs.rows) where
-  first_orphan : length own ≡ length (sections_of t)
-  first_orphan = ap (λ (xs : List Name). length xs) in_names ∙ names_length (sections_of t)
-
-  orphans_are : orphans own (names_asked rules rows) ≡ orphans_of t inputs
-  orphans_are = rw (in_names, in_rules, in_rows) refl
-
-  pub rows_placed : IsPlaced t inputs placed
-  rows_placed = record {
-    names = by.names ∙ rw (orphans_are, in_names) refl;
-    fates = by.fates ∙ rw (orphans_are, in_names, in_rules, in_rows) refl;
-    places = by.all_places ∙ rw (both_lengths own (orphans own (names_asked rules rows)), orphans_same (length own) (orphans own (names_asked rules rows)), orphans_are, first_orphan, in_places) refl;
-  }
-
 -- ---- checks
 
-module _ (t : LinkerScript) (inputs : InputTable) (ps : List Place) (in_places : ps ≡ script_places t) (a : failing (of_table t inputs) ≡ None) where
-  pub places_refused : (f : Fault) → IsWanted (failing (place_checks 0 ps)) f → IsWanted (failing (checks t inputs)) f
-  places_refused f h = places_fail t inputs a f (rw in_places at h)
+module _ (t : LinkerScript) (inputs : InputTable) (a : failing (of_table t inputs) ≡ None) (b : failing (script_checks t) ≡ None) (placed : Placed) (is_placed : IsPlaced t inputs placed)
+    (es : List Entry) (in_entries : es ≡ firm_entries placed.fates inputs.symbols (shown placed.places)) where
+  all_entries_same : es ≡ firm_entries (fates_of t inputs) inputs.symbols (places_of t inputs)
+  all_entries_same = in_entries ∙ rw (is_placed.fates, is_placed.places) refl
 
-  module _ (b : failing (place_checks 0 ps) ≡ None) (xs : List Section) (in_sections : xs ≡ sections_of t) where
-    pub sections_refused : (f : Fault) → IsWanted (failing (name_checks DuplicateSection [] (names_of xs))) f → IsWanted (failing (checks t inputs)) f
-    sections_refused f h = sections_fail t inputs a (rw in_places at b) f (rw in_sections at h)
+  pub symbols_refused : (f : Fault) → IsWanted (failing (name_checks DuplicateSymbol [] (entry_names es))) f → IsWanted (failing (checks t inputs)) f
+  symbols_refused f h = symbols_fail t inputs a b f (rw all_entries_same at h)
 
-    module _ (c : failing (name_checks DuplicateSection [] (names_of xs)) ≡ None) (placed : Placed) (is_placed : IsPlaced t inputs placed) (es : List Entry) (in_entries : es ≡ firm_entries placed.fates inputs.symbols (shown placed.places)) where
-      all_entries_same : es ≡ firm_entries (fates_of t inputs) inputs.symbols (places_of t inputs)
-      all_entries_same = in_entries ∙ rw (is_placed.fates, is_placed.places) refl
+  module _ (c : failing (name_checks DuplicateSymbol [] (entry_names es)) ≡ None) where
+    pub support_refused : (f : Fault) → IsWanted (failing (support_checks 0 inputs.rows placed.fates)) f → IsWanted (failing (checks t inputs)) f
+    support_refused f h = support_fails t inputs a b (rw all_entries_same at c) f (rw is_placed.fates at h)
 
-      pub symbols_refused : (f : Fault) → IsWanted (failing (name_checks DuplicateSymbol [] (entry_names es))) f → IsWanted (failing (checks t inputs)) f
-      symbols_refused f h = symbols_fail t inputs a (rw in_places at b) (rw in_sections at c) f (rw all_entries_same at h)
+    pub entries_complete : (next : List Entry) → next ≡ es ++ provided_entries 0 (shown placed.places) → next ≡ all_entries (fates_of t inputs) inputs.symbols (places_of t inputs)
+    entries_complete next e = e ∙ rw (all_entries_same, is_placed.places) refl
 
-      module _ (d : failing (name_checks DuplicateSymbol [] (entry_names es)) ≡ None) where
-        pub support_refused : (f : Fault) → IsWanted (failing (support_checks 0 inputs.rows placed.fates)) f → IsWanted (failing (checks t inputs)) f
-        support_refused f h = support_fails t inputs a (rw in_places at b) (rw in_sections at c) (rw all_entries_same at d) f (rw is_placed.fates at h)
+    pub names_complete : (names next : List Name) → names ≡ entry_names es → next ≡ names ++ entry_names (provided_entries 0 (shown placed.places)) → next ≡ entry_names (all_entries (fates_of t inputs) inputs.symbols (places_of t inputs))
+    names_complete names next e f = f ∙ ap (λ (xs : List Name). xs ++ entry_names (provided_entries 0 (shown placed.places))) e ∙ sym (entry_names_append es (provided_entries 0 (shown placed.places))) ∙ ap entry_names (entries_complete (es ++ provided_entries 0 (shown placed.places)) refl)
 
-        pub entries_complete : (next : List Entry) → next ≡ es ++ provided_entries 0 (shown placed.places) → next ≡ all_entries (fates_of t inputs) inputs.symbols (places_of t inputs)
-        entries_complete next e = e ∙ rw (all_entries_same, is_placed.places) refl
-
-        pub names_complete : (names next : List Name) → names ≡ entry_names es → next ≡ names ++ entry_names (provided_entries 0 (shown placed.places)) → next ≡ entry_names (all_entries (fates_of t inputs) inputs.symbols (places_of t inputs))
-        names_complete names next e f = f ∙ ap (λ (xs : List Name). xs ++ entry_names (provided_entries 0 (shown placed.places))) e ∙ sym (entry_names_append es (provided_entries 0 (shown placed.places))) ∙ ap entry_names (entries_complete (es ++ provided_entries 0 (shown placed.places)) refl)
-
-        pub checks_hold : failing (support_checks 0 inputs.rows placed.fates) ≡ None → failing (checks t inputs) ≡ None
-        checks_hold e = all_hold t inputs a (rw in_places at b) (rw in_sections at c) (rw all_entries_same at d) (rw is_placed.fates at e)
+    pub checks_hold : failing (support_checks 0 inputs.rows placed.fates) ≡ None → failing (checks t inputs) ≡ None
+    checks_hold d = all_hold t inputs a b (rw all_entries_same at c) (rw is_placed.fates at d)
 
 -- ---- layout
 
 module _ (script : Bytes) (t : LinkerScript) (inputs : InputTable) (checked : Checked) (c : IsChecked t inputs checked) where
   -- the traits of each section, by its rows
   pub traits_fates : (traits : ℕ → Traits) → ((s : ℕ) → traits s ≡ traits_of (section_rows s inputs.rows checked.placed.fates)) → (s : ℕ) → traits s ≡ traits_of (section_rows s inputs.rows (fates_of t inputs))
-  traits_fates traits h s = h s ∙ ap (λ (fs : List (Option Chunk)). traits_of (section_rows s inputs.rows fs)) c.placed.fates
+  traits_fates traits h s = h s ∙ ap (λ (fs : List (Option Kept)). traits_of (section_rows s inputs.rows fs)) c.placed.fates
 
   pub ordered_rows : (order : Chunk → List ChunkRow) → ((q : Chunk) → IsOrdered stands_before (rows_in q inputs.rows checked.placed.fates) (order q)) → AreOrdered script t inputs order
-  ordered_rows order h = λ q. subst (λ (fs : List (Option Chunk)). IsOrdered stands_before (rows_in q inputs.rows fs) (order q)) c.placed.fates (h q)
+  ordered_rows order h = λ q. subst (λ (fs : List (Option Kept)). IsOrdered stands_before (rows_in q inputs.rows fs) (order q)) c.placed.fates (h q)
 
   module _ (names : List (Bor Name)) (numbers : List Name) (alignments : List ℕ) (entries : List borrowed.Entry) (traits : ℕ → Traits) (of_traits : (s : ℕ) → traits s ≡ traits_of (section_rows s inputs.rows checked.placed.fates))
       (in_names : pointed names ≡ checked.placed.names) (in_numbers : numbers ≡ checked.placed.names) (in_alignments : alignments ≡ alignments_by traits 0 checked.placed.names) (in_entries : entries ≡ checked.entries) where
@@ -178,7 +140,7 @@ module _ (script : Bytes) (t : LinkerScript) (inputs : InputTable) (checked : Ch
     listed_inputs = l.placements ∙ ap (placed_inputs known 0) c.placed.fates
 
     listed_symbols : lists.symbols ≡ table_symbols known (fates_of t inputs) inputs.symbols ++ ended.found
-    listed_symbols = l.symbols ∙ ap (λ (fs : List (Option Chunk)). table_symbols known fs inputs.symbols ++ ended.found) c.placed.fates
+    listed_symbols = l.symbols ∙ ap (λ (fs : List (Option Kept)). table_symbols known fs inputs.symbols ++ ended.found) c.placed.fates
 
     pub lists_fit : Fits script t inputs (record { script = t; sections = lists.sections; placements = lists.placements; locations = lists.locations; symbols = lists.symbols; names = lists.names })
     lists_fit = record {

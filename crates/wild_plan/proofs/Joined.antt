@@ -2,7 +2,7 @@
 use Rattle.std.proofs.Common.{◌≡◌, ◌∙◌, ℕ, Bool, true, false, ◌||◌, List, [], ◌∷◌, max, cond, refl, sym, arith, Option}
 use Rattle.std.specs.List.{list_any}
 use Rattle.wild_base.specs.InputFlags.{is_write, is_exec}
-use Rattle.wild_plan_spec.specs.declared.chunk.Chunk.{Chunk}
+use Rattle.wild_plan_spec.specs.declared.chunk.Kept.{Kept}
 use Rattle.wild_plan_spec.specs.declared.row.InputRow.{InputRow}
 use Rattle.wild_plan_spec.specs.Chunks.{alignment_of, is_in, section_rows, largest_alignment}
 use Rattle.wild_plan.specs.declared.traits.Traits.{Traits}
@@ -34,19 +34,19 @@ none_left t =
     rw (a, or_false t.write, or_false t.exec) refl
 
 -- the traits known, with those of the rows that are left, are all
-abbrev pub Noted : (ℕ → Traits) → List InputRow → List (Option Chunk) → (ℕ → Traits) → Type 0
+abbrev pub Noted : (ℕ → Traits) → List InputRow → List (Option Kept) → (ℕ → Traits) → Type 0
 Noted known rows fates all = (s : ℕ) → joined (known s) (traits_of (section_rows s rows fates)) ≡ all s
 
 noted_by : (b : Bool) (t : Traits) (row : InputRow) (rows : List InputRow) → joined (cond b (joined t (traits_of (row ∷ []))) t) (traits_of rows) ≡ joined t (traits_of (cond b (row ∷ rows) rows))
 noted_by true t row rows = joined_more t row rows
 noted_by false t row rows = refl
 
-pub noted_none : (known : ℕ → Traits) (rows : List InputRow) (fates : List (Option Chunk)) → ((s : ℕ) → known s ≡ traits_of []) → Noted known rows fates (λ s. traits_of (section_rows s rows fates))
+pub noted_none : (known : ℕ → Traits) (rows : List InputRow) (fates : List (Option Kept)) → ((s : ℕ) → known s ≡ traits_of []) → Noted known rows fates (λ s. traits_of (section_rows s rows fates))
 noted_none known rows fates none s = rw (none s) (joined_none (section_rows s rows fates))
 
-pub noted_more : (known next : ℕ → Traits) (row : InputRow) (rows : List InputRow) (q : Option Chunk) (fates : List (Option Chunk)) (all : ℕ → Traits) → Noted known (row ∷ rows) (q ∷ fates) all
+pub noted_more : (known next : ℕ → Traits) (row : InputRow) (rows : List InputRow) (q : Option Kept) (fates : List (Option Kept)) (all : ℕ → Traits) → Noted known (row ∷ rows) (q ∷ fates) all
     → ((s : ℕ) → next s ≡ cond (is_in s q) (joined (known s) (traits_of (row ∷ []))) (known s)) → Noted next rows fates all
 noted_more known next row rows q fates all old step s = rw (step s) (noted_by (is_in s q) (known s) row (section_rows s rows fates)) ∙ old s
 
-pub noted_all : (known : ℕ → Traits) (fates : List (Option Chunk)) (all : ℕ → Traits) → Noted known [] fates all → (s : ℕ) → known s ≡ all s
+pub noted_all : (known : ℕ → Traits) (fates : List (Option Kept)) (all : ℕ → Traits) → Noted known [] fates all → (s : ℕ) → known s ≡ all s
 noted_all known fates all done s = sym (none_left (known s)) ∙ done s

@@ -12,12 +12,12 @@ use Rattle.wild_eval.specs.declared.names.Entry.{Entry}
 use Rattle.wild_eval.specs.Setting as named
 use Rattle.wild_plan_spec.specs.declared.row.InputTable.{InputTable}
 use Rattle.wild_plan_spec.specs.Definitions as spec
-use Rattle.wild_plan_spec.specs.Names.{Name}
-use Rattle.wild_plan_spec.specs.Places.{places_of}
+use Rattle.wild_plan_spec.specs.Names.{Name, or_empty}
+use Rattle.wild_plan_spec.specs.Orphans.{places_of}
 use Rattle.wild_plan_spec.specs.Fates.{section_names, fates_of}
-use Rattle.wild_plan_spec.specs.Settings.{alignments_of, or_empty, setting_of}
+use Rattle.wild_plan_spec.specs.Settings.{alignments_of, setting_of}
 use Rattle.wild_plan.specs.Entries.{shown_entries}
-use Rattle.wild_plan.specs.Pointed.{pointed}
+use Rattle.wild_fates.specs.Pointed.{pointed}
 
 name_same : (names : List (Bor Name)) (s : ℕ) → named.or_empty (slice_get names s) ≡ or_empty (slice_get (pointed names) s)
 name_same [] s = refl

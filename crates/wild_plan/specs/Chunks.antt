@@ -1,5 +1,5 @@
 -- The rows that are kept of each chunk.
-use Rattle.std.specs.Prelude.{List, [], ◌∷◌, Option, Some, None}
+use Rattle.std.specs.Prelude.{List, [], Option, Some, None}
 use Rattle.std.specs.BTreeMap.{get}
 use Rattle.wild_plan_spec.specs.declared.chunk.Chunk.{Chunk}
 use Rattle.wild_plan_spec.specs.declared.chunk.ChunkRow.{ChunkRow}
@@ -12,7 +12,3 @@ items_or_none (Some v) f = f v
 
 abbrev pub rows_at : Chunks → Chunk → List ChunkRow
 rows_at c q = items_or_none (get chunk_cmp c.by_chunk q) (λ v. v.items)
-
-abbrev pub option_list : {X : Type 0} → Option X → List X
-option_list None = []
-option_list (Some x) = x ∷ []

@@ -1,52 +1,26 @@
 -- What the parts of a plan answer.
-use Rattle.std.specs.Prelude.{◌≡◌, ℕ, ◌-◌, List, length, None, Ok, ◌++◌}
+use Rattle.std.specs.Prelude.{◌≡◌, ℕ, None, Ok, ◌++◌}
 use Rattle.wild_script.specs.Tree.{Bytes}
 use Rattle.wild_script.specs.declared.tree.LinkerScript.{LinkerScript}
 use Rattle.wild_eval.specs.Table.{known_of}
 use Rattle.wild_plan_spec.specs.declared.row.InputTable.{InputTable}
-use Rattle.wild_plan_spec.specs.Statements.{sections_of}
-use Rattle.wild_plan_spec.specs.Rules.{Rule, rules_of}
 use Rattle.wild_plan_spec.specs.Chunks.{section_rows}
 use Rattle.wild_plan_spec.specs.Checks.{checks, failing}
 use Rattle.wild_plan_spec.specs.Definitions.{all_entries, entry_names}
-use Rattle.wild_plan_spec.specs.Fates.{orphans, names_asked, all_fates, section_names, fates_of}
-use Rattle.wild_plan_spec.specs.Names.{Name}
-use Rattle.wild_plan_spec.specs.Places.{Place, script_places, places_of}
+use Rattle.wild_plan_spec.specs.Fates.{fates_of}
+use Rattle.wild_plan_spec.specs.Orphans.{places_of}
 use Rattle.wild_plan_spec.specs.Settings.{setting_of}
 use Rattle.wild_plan_spec.specs.End.{finished}
 use Rattle.wild_plan_spec.specs.Layout.{placed_inputs, row_names, table_symbols}
 use Rattle.wild_plan_spec.specs.Fit.{IsLaid}
-use Rattle.wild_plan_spec.specs.declared.row.InputRow.{InputRow}
-use Rattle.wild_plan.specs.declared.planning.Parts.{Parts}
-use Rattle.wild_plan.specs.declared.planning.Placed.{Placed}
 use Rattle.wild_plan.specs.declared.planning.Checked.{Checked}
 use Rattle.wild_plan.specs.declared.planning.Ended.{Ended}
 use Rattle.wild_plan.specs.declared.placement.Lists.{Lists}
 use Rattle.wild_plan.specs.Entries.{shown_entries}
 use Rattle.wild_plan.specs.Listed.{sections_by}
 use Rattle.wild_plan.specs.Moves.{state_of}
-use Rattle.wild_plan.specs.Orphaned.{orphans_from}
-use Rattle.wild_plan.specs.Pointed.{pointed}
-use Rattle.wild_plan.specs.Shown.{shown}
+use Rattle.wild_fates.specs.Parts.{IsPlaced}
 use Rattle.wild_plan.specs.Traits.{traits_of, traits_at}
-
--- the sections, the places and the rules of a script
-pub record IsParts (t : LinkerScript) (parts : Parts) : Type 0 where
-  pub sections : pointed parts.sections ≡ sections_of t
-  pub places : shown parts.places ≡ script_places t
-  pub rules : parts.rules ≡ rules_of t
-
--- where rows go by these rules, with orphans behind these places and these sections
-pub record IsPlacedBy (places : List Place) (rules : List Rule) (own : List Name) (rows : List InputRow) (placed : Placed) : Type 0 where
-  pub names : placed.names ≡ own ++ orphans own (names_asked rules rows)
-  pub fates : placed.fates ≡ all_fates rules (own ++ orphans own (names_asked rules rows)) rows
-  pub all_places : shown placed.places ≡ places ++ orphans_from (length own) (length (own ++ orphans own (names_asked rules rows)) - length own)
-
--- where the rows of a table go
-pub record IsPlaced (t : LinkerScript) (inputs : InputTable) (placed : Placed) : Type 0 where
-  pub names : placed.names ≡ section_names t inputs
-  pub fates : placed.fates ≡ fates_of t inputs
-  pub places : shown placed.places ≡ places_of t inputs
 
 -- all checks hold: this is where the rows go, and what is defined
 pub record IsChecked (t : LinkerScript) (inputs : InputTable) (checked : Checked) : Type 0 where

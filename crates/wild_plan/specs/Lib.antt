@@ -1,11 +1,5 @@
-pub mod Pointed
-pub mod Shown
 pub mod Entries
-pub mod Paired
-pub mod Passes
 pub mod Traits
-pub mod Collected
-pub mod Orphaned
 pub mod Chunks
 pub mod Moves
 pub mod Listed

@@ -3,24 +3,17 @@
 ghost use Rattle.std.specs.Prelude.{◌≡◌, [], ◌∷◌, ◌++◌, OnOk, IfOk, not, slice_get, length};
 ghost use Rattle.std.specs.List.{list_any};
 ghost use Rattle.wild_base.specs.Numbering.{is_named};
-ghost use Rattle.wild_base.specs.declared.fault.Fault.TheVariants.{DuplicateSection, DuplicateSymbol};
-ghost use Rattle.wild_plan_spec.specs.Checks.{row_checks, holds_offset, symbol_checks, is_task_built, is_place_built, place_checks, name_checks, is_plain, is_supported, support_checks, failing};
+ghost use Rattle.wild_base.specs.declared.fault.Fault.TheVariants.{DuplicateSymbol};
+ghost use Rattle.wild_plan_spec.specs.Checks.{row_checks, holds_offset, symbol_checks, name_checks, is_plain, is_supported, support_checks, failing};
 ghost use Rattle.wild_plan_spec.specs.Definitions.{entry_names};
-ghost use Rattle.wild_plan_spec.specs.Fates.{names_of};
 ghost use Rattle.wild_plan.specs.Entries.{shown_entries};
-ghost use Rattle.wild_plan.specs.Pointed.{pointed};
-ghost use Rattle.wild_plan.specs.Shown.{shown_task, shown_place, shown};
-ghost use Rattle.wild_plan.specs.Passes.{Passes, PassesWith, repeated};
+ghost use Rattle.wild_fates.specs.Passes.{Passes, PassesWith, repeated};
 
-use crate::built::is_built;
-use crate::places::{Place, Task};
-use crate::section_names::SectionNames;
 use bitflags::Flags;
 use std::alloc::Global;
 use wild_base::{Alignment, Fault, InputFlags, Name, NoMemory, Numbering};
 use wild_eval::Entry;
-use wild_plan_spec::{Chunk, InputRow, SymbolRow};
-use wild_script::Section;
+use wild_plan_spec::{InputRow, Kept, SymbolRow};
 
 /// Checks that each row has an alignment. The fault is that of the first that has none.
 pub fn check_rows(rows: &[InputRow]) -> Result<(), Fault>
@@ -58,41 +51,8 @@ pub fn check_symbols(rows: &[InputRow], symbols: &[SymbolRow]) -> Result<(), Fau
     Ok(())
 }
 
-fn is_task_built(task: Option<Task<'_>>) -> bool
-    ensures { result ≡ is_task_built (shown_task task.entry) }
-{
-    match task {
-        None => true,
-        Some(Task::Assign(_, value)) => is_built(value, true),
-        Some(Task::Provide(definition)) => is_built(&definition.value, true),
-        Some(Task::Locate(address)) => is_built(address, true),
-        Some(Task::Check(command)) => is_built(command.expression.get(), true),
-    }
-}
-
-fn is_place_built(place: &Place<'_>) -> bool
-    ensures { result ≡ is_place_built (shown_place place.now) }
-{
-    match *place {
-        Place::SetLocation(expression) => is_built(expression, false),
-        _ => is_task_built(place.task()),
-    }
-}
-
-/// Checks that the expressions of all places are built. The fault is that of the first place with another.
-pub fn check_places(places: &[Place<'_>]) -> Result<(), Fault>
-    ensures { Passes (failing (place_checks 0 (shown places.now))) result }
-{
-    for (index, place) in places.iter().enumerate() {
-        if !is_place_built(place) {
-            return Err(Fault::Unsupported { index });
-        }
-    }
-    Ok(())
-}
-
 /// Puts a name behind the others. Answers whether none of them was the same.
-#[tactic(auto, using(crate::proofs::Names::any_number))]
+#[tactic(auto, using(wild_fates::proofs::Names::any_number))]
 fn push_name(alloc: Global, names: &mut Numbering, name: &Name) -> Result<bool, NoMemory>
     ensures pushed { OnOk result (names.new ≡ names.old ++ name.now ∷ []) }
     ensures first { IfOk result (λ first. first ≡ not (list_any (is_named name.now) names.old)) }
@@ -100,23 +60,6 @@ fn push_name(alloc: Global, names: &mut Numbering, name: &Name) -> Result<bool, 
     let first = names.get(name).is_none();
     names.push(alloc, name)?;
     Ok(first)
-}
-
-#[tactic(auto, using(crate::proofs::Names::any_number))]
-fn push_section<'a>(
-    alloc: Global,
-    names: SectionNames<'a>,
-    section: &'a Section,
-) -> Result<SectionNames<'a>, Fault>
-    ensures pushed { IfOk result (λ next. next ≡ names.entry ++ section.now.output_section_name ∷ []) }
-    ensures passes { PassesWith (repeated DuplicateSection names.entry section.now.output_section_name) result }
-{
-    let name = &section.output_section_name;
-    if names.get(name).is_some() {
-        let name = name.copy(alloc)?;
-        return Err(Fault::DuplicateSection { name });
-    }
-    Ok(names.with(alloc, name)?)
 }
 
 fn push_symbol(alloc: Global, names: &mut Numbering, entry: &Entry<'_>) -> Result<(), Fault>
@@ -130,22 +73,6 @@ fn push_symbol(alloc: Global, names: &mut Numbering, entry: &Entry<'_>) -> Resul
         let name = name.copy(alloc)?;
         Err(Fault::DuplicateSymbol { name })
     }
-}
-
-/// The names of the sections, of which no two are the same. The fault is that of the first with the name of an earlier
-/// one.
-pub fn number_sections<'a>(
-    alloc: Global,
-    sections: &[&'a Section],
-) -> Result<SectionNames<'a>, Fault>
-    ensures names { IfOk result (λ names. names ≡ names_of (pointed sections.now)) }
-    ensures passes { PassesWith (failing (name_checks DuplicateSection [] (names_of (pointed sections.now)))) result }
-{
-    let mut names = SectionNames::new(alloc);
-    for section in sections {
-        names = push_section(alloc, names, section)?;
-    }
-    Ok(names)
 }
 
 /// The names of the entries, of which no two are the same. The fault is that of the first with the name of an earlier
@@ -171,7 +98,7 @@ fn is_plain(flags: InputFlags) -> bool
 }
 
 // Where a row is kept, its flags are built.
-fn is_supported(fate: Option<Chunk>, flags: InputFlags) -> bool
+fn is_supported(fate: Option<Kept>, flags: InputFlags) -> bool
     ensures { result ≡ is_supported fate flags }
 {
     match fate {
@@ -181,7 +108,7 @@ fn is_supported(fate: Option<Chunk>, flags: InputFlags) -> bool
 }
 
 /// Checks that the flags of each row that is kept are built. The fault is that of the first row with others.
-pub fn check_support(rows: &[InputRow], fates: &[Option<Chunk>]) -> Result<(), Fault>
+pub fn check_support(rows: &[InputRow], fates: &[Option<Kept>]) -> Result<(), Fault>
     requires { length fates.now ≡ length rows.now }
     ensures { Passes (failing (support_checks 0 rows.now fates.now)) result }
 {

@@ -4,14 +4,14 @@ ghost use Rattle.std.specs.Prelude.{◌≡◌, [], ◌∷◌, ◌++◌, OnOk, If
 ghost use Rattle.wild_eval.specs.Setting.{shown_definition};
 ghost use Rattle.wild_plan_spec.specs.Definitions.{entry_of, symbol_chunk, table_entry, table_entries, point_of, assigned_by, assigned_entries, provide_entry, provided_by, provided_entries, firm_entries, entry_names};
 ghost use Rattle.wild_plan.specs.Entries.{shown_entries};
-ghost use Rattle.wild_plan.specs.Shown.{shown, shown_place, shown_task};
+ghost use Rattle.wild_fates.specs.Shown.{shown, shown_place, shown_task};
 
-use crate::places::{Place, Task};
 use sqlite_items::Items;
 use std::alloc::Global;
 use wild_base::{Name, NoMemory, Numbering};
 use wild_eval::{Definition, Entry};
-use wild_plan_spec::{Chunk, SymbolRow};
+use wild_fates::{Place, Task};
+use wild_plan_spec::{Chunk, Kept, SymbolRow};
 use wild_script::ProvideSymbolDefinition;
 use wild_value_spec::Point;
 
@@ -50,12 +50,12 @@ fn push_named<'a>(
 }
 
 /// The chunk that holds a symbol of the table: that of its row.
-pub fn symbol_chunk(fates: &[Option<Chunk>], symbol: &SymbolRow) -> Option<Chunk>
+pub fn symbol_chunk(fates: &[Option<Kept>], symbol: &SymbolRow) -> Option<Chunk>
     ensures { result ≡ symbol_chunk fates.now symbol.now }
 {
     match fates.get(symbol.row) {
-        Some(fate) => *fate,
-        None => None,
+        Some(Some(kept)) => Some(kept.chunk),
+        _ => None,
     }
 }
 
@@ -82,7 +82,7 @@ fn push_row<'a>(
 
 fn push_rows<'a>(
     entries: &mut Items<Entry<'a>>,
-    fates: &[Option<Chunk>],
+    fates: &[Option<Kept>],
     symbols: &'a [SymbolRow],
 ) -> Result<(), NoMemory>
     ensures { OnOk result (shown_entries entries.new ≡ shown_entries entries.old ++ table_entries fates.now symbols.now) }
@@ -167,7 +167,7 @@ fn push_all_assigned<'a>(
 /// What must not be defined twice: the symbols of the table, then the assignments. Fails where memory runs out.
 pub fn find_entries<'a>(
     alloc: Global,
-    fates: &[Option<Chunk>],
+    fates: &[Option<Kept>],
     symbols: &'a [SymbolRow],
     places: &[Place<'a>],
 ) -> Result<Items<Entry<'a>>, NoMemory>

@@ -6,16 +6,16 @@ ghost use Rattle.wild_eval.specs.Setting.{path_of, setting_of, shown_definition}
 ghost use Rattle.wild_eval.specs.Table.{known_of};
 ghost use Rattle.wild_plan_spec.specs.Definitions as definitions;
 ghost use Rattle.wild_plan_spec.specs.End as spec;
-ghost use Rattle.wild_plan.specs.Shown.{shown, shown_task};
+ghost use Rattle.wild_fates.specs.Shown.{shown, shown_task};
 ghost use Rattle.wild_value_spec.specs.Answer.{Returns};
 ghost use Rattle.wild_value_spec.specs.Value.{full};
 
 use crate::definitions::point_of;
-use crate::places::{Place, Task};
 use sqlite_items::Items;
 use std::alloc::{AllocError, Global};
 use wild_base::{Fault, Name};
 use wild_eval::{Definition, Names, Path, Reader, Table};
+use wild_fates::{Place, Task};
 use wild_plan_spec::PlacedSymbol;
 use wild_script::{AssertCommand, Expression, ProvideSymbolDefinition};
 

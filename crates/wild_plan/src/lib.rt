@@ -1,20 +1,14 @@
 //! Placement plans: where a script puts each input section of a table.
 #![tactic(auto)]
 
-mod built;
 mod check;
 mod chunks;
 mod definitions;
 mod ends;
-mod fates;
 mod listing;
 mod overlap;
 mod placement;
-mod places;
 mod planning;
-mod rules;
-mod section_names;
-mod statements;
 mod traits;
 mod walk;
 

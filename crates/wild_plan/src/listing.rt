@@ -3,7 +3,7 @@
 ghost use Rattle.std.specs.Prelude.{◌≡◌, ◌++◌, OnOk, IfOk};
 ghost use Rattle.wild_plan_spec.specs.Layout.{placed_input, placed_inputs, row_names, table_symbol, table_symbols};
 ghost use Rattle.wild_plan.specs.Listed.{flags_by, section_by, sections_by};
-ghost use Rattle.wild_plan.specs.Pointed.{pointed};
+ghost use Rattle.wild_fates.specs.Pointed.{pointed};
 ghost use Rattle.wild_eval.specs.Table.{known_of};
 ghost use Rattle.wild_plan.specs.Traits.{traits_at};
 
@@ -15,7 +15,7 @@ use std::alloc::Global;
 use wild_base::{InputFlags, Name, NoMemory};
 use wild_eval::Table;
 use wild_plan_spec::{
-    Chunk, InputRow, PlacedInput, PlacedSection, PlacedSymbol, RowNames, SymbolRow,
+    Chunk, InputRow, Kept, PlacedInput, PlacedSection, PlacedSymbol, RowNames, SymbolRow,
 };
 
 /// In memory, and writable or executable where a row is.
@@ -74,14 +74,14 @@ pub fn placed_sections(
     Ok(placed)
 }
 
-fn placed_input(table: &Table, row: usize, fate: Option<Chunk>) -> PlacedInput
+fn placed_input(table: &Table, row: usize, fate: Option<Kept>) -> PlacedInput
     ensures { result ≡ placed_input (known_of table.now) row fate }
 {
     match fate {
         None => PlacedInput::Discarded,
-        Some(chunk) => PlacedInput::Placed {
-            section: chunk.section,
-            chunk: chunk.number,
+        Some(kept) => PlacedInput::Placed {
+            section: kept.chunk.section,
+            chunk: kept.chunk.number,
             address: table.address(row),
         },
     }
@@ -91,7 +91,7 @@ fn placed_input(table: &Table, row: usize, fate: Option<Chunk>) -> PlacedInput
 pub fn placed_inputs(
     alloc: Global,
     table: &Table,
-    fates: &[Option<Chunk>],
+    fates: &[Option<Kept>],
 ) -> Result<Items<PlacedInput>, NoMemory>
     ensures { IfOk result (λ placed. placed ≡ placed_inputs (known_of table.now) 0 fates.now) }
 {
@@ -149,7 +149,7 @@ fn push_symbol(
 pub fn placed_symbols(
     alloc: Global,
     table: &Table,
-    fates: &[Option<Chunk>],
+    fates: &[Option<Kept>],
     symbols: &[SymbolRow],
 ) -> Result<Items<PlacedSymbol>, NoMemory>
     ensures { IfOk result (λ placed. placed ≡ table_symbols (known_of table.now) fates.now symbols.now) }

@@ -5,53 +5,28 @@ ghost use Rattle.wild_base.specs.declared.fault.Fault.TheVariants as fault;
 ghost use Rattle.wild_script.specs.declared.tree.LinkerScript.{LinkerScript};
 ghost use Rattle.wild_plan_spec.specs.Checks.{row_checks, symbol_checks, checks, failing};
 ghost use Rattle.wild_plan_spec.specs.Fit.{IsThePlan, IsTheFault, Fits, LayoutFault, EndFault, FaultIn};
-ghost use Rattle.wild_plan.specs.Composed.{IsParts, IsPlacedBy, IsChecked, IsEnded, IsListed};
+ghost use Rattle.wild_plan.specs.Composed.{IsChecked, IsEnded, IsListed};
 ghost use Rattle.wild_plan.specs.Listed.{alignments_by};
-ghost use Rattle.wild_plan.specs.Passes.{IsWanted};
-ghost use Rattle.wild_plan.specs.Pointed.{pointed};
-ghost use Rattle.wild_plan.specs.Shown.{shown};
+ghost use Rattle.wild_fates.specs.Passes.{IsWanted};
+ghost use Rattle.wild_fates.specs.Pointed.{pointed};
+ghost use Rattle.wild_fates.specs.Shown.{shown};
 ghost use Rattle.wild_plan.specs.Traits.{traits_at};
 
-use crate::check::{
-    check_places, check_rows, check_support, check_symbols, number_entries, number_sections,
-};
+use crate::check::{check_rows, check_support, check_symbols, number_entries};
 use crate::chunks::find_chunks;
 use crate::definitions::{find_entries, push_all_provided};
 use crate::ends::End;
-use crate::fates::{Fates, find_fates};
 use crate::listing::{placed_inputs, placed_sections, placed_symbols, row_names};
 use crate::placement::{Lists, Plan};
-use crate::places::{Place, find_places, push_orphans};
-use crate::rules::{Rules, find_rules};
-use crate::section_names::SectionNames;
-use crate::statements::{find_sections, find_statements};
 use crate::traits::{SectionTraits, find_traits};
 use crate::walk::{Given, Walk, lay_out};
 use sqlite_items::Items;
 use std::alloc::Global;
 use wild_base::{Alignment, Fault, Name, NoMemory, Numbering};
 use wild_eval::{Entry, Names};
-use wild_plan_spec::{Chunk, InputRow, InputTable, PlacedSymbol, PlanOptions};
-use wild_script::{LinkerScript, Section};
-
-/// What a script is taken apart into.
-#[derive(Drop)]
-pub struct Parts<'a> {
-    pub sections: Items<&'a Section>,
-    pub places: Items<Place<'a>>,
-    pub rules: Rules,
-}
-
-/// Where the rows of a table go.
-#[derive(Drop)]
-pub struct Placed<'a> {
-    /// The names of the sections, orphans last.
-    pub names: SectionNames<'a>,
-    /// The places of the script, and behind them those of the orphans.
-    pub places: Items<Place<'a>>,
-    /// The chunk of each row, or None where it is discarded.
-    pub fates: Items<Option<Chunk>>,
-}
+use wild_fates::{Placed, place_rows};
+use wild_plan_spec::{InputTable, PlacedSymbol, PlanOptions};
+use wild_script::LinkerScript;
 
 /// A script and a table whose checks hold.
 #[derive(Drop)]
@@ -80,47 +55,9 @@ fn check_table(inputs: &InputTable) -> Result<(), Fault>
     check_symbols(rows, inputs.symbols.as_slice())
 }
 
-fn find_parts(alloc: Global, script: &LinkerScript) -> Result<Parts<'_>, NoMemory>
-    ensures { IfOk result (IsParts script.now) }
-{
-    let statements = find_statements(alloc, script)?;
-    let places = find_places(alloc, statements.as_slice())?;
-    let sections = find_sections(alloc, statements.as_slice())?;
-    let rules = find_rules(alloc, sections.as_slice())?;
-    Ok(Parts {
-        sections,
-        places,
-        rules,
-    })
-}
-
-// The fates of the rows, and the sections and places with those of the orphans.
-fn place_rows<'a>(
-    alloc: Global,
-    parts: Parts<'a>,
-    own: SectionNames<'a>,
-    rows: &'a [InputRow],
-) -> Result<Placed<'a>, NoMemory>
-    ensures { IfOk result (IsPlacedBy (shown parts.entry.places) parts.entry.rules own.entry rows.now) }
-{
-    let Parts {
-        mut places,
-        rules,
-        ..
-    } = parts;
-    let first = own.len();
-    let Fates { sections, fates } = find_fates(alloc, own, &rules, rows)?;
-    push_orphans(&mut places, first, sections.len())?;
-    Ok(Placed {
-        names: sections,
-        places,
-        fates,
-    })
-}
-
-/// Checks a script and its table: the table, then that the expressions are built, then the names of the sections and of
-/// the symbols, then that the rows are built.
-#[tactic(auto, using(crate::proofs::Orphans::fates_length))]
+/// Checks a script and its table: the table, then the places of the script and the names of its sections, then the
+/// names of the symbols, then that the rows are built.
+#[tactic(auto, using(wild_fates::proofs::Orphans::fates_length))]
 fn check<'a>(
     alloc: Global,
     script: &'a LinkerScript,
@@ -130,20 +67,15 @@ fn check<'a>(
     ensures failing { IfErr result (IsWanted (failing (checks script.now inputs.now))) }
 {
     check_table(inputs)?;
-    let rows = inputs.rows.as_slice();
-    let symbols = inputs.symbols.as_slice();
-    let parts = find_parts(alloc, script)?;
-    check_places(parts.places.as_slice())?;
-    let own = number_sections(alloc, parts.sections.as_slice())?;
-    let placed = place_rows(alloc, parts, own, rows)?;
+    let placed = place_rows(alloc, script, inputs)?;
     let mut entries = find_entries(
         alloc,
         placed.fates.as_slice(),
-        symbols,
+        inputs.symbols.as_slice(),
         placed.places.as_slice(),
     )?;
     let mut symbols = number_entries(alloc, entries.as_slice())?;
-    check_support(rows, placed.fates.as_slice())?;
+    check_support(inputs.rows.as_slice(), placed.fates.as_slice())?;
     push_all_provided(alloc, &mut entries, &mut symbols, placed.places.as_slice())?;
     Ok(Checked {
         placed,
@@ -243,7 +175,7 @@ fn list_all(
 }
 
 /// The lists of the plan of a script and its table.
-#[tactic(auto, using(crate::proofs::Orphans::fates_length))]
+#[tactic(auto, using(wild_fates::proofs::Orphans::fates_length))]
 fn script_lists(
     alloc: Global,
     script: &[u8],

@@ -8,7 +8,7 @@ use bitflags::Flags;
 use std::alloc::Global;
 use std::collections::BTreeMap;
 use wild_base::{Alignment, InputFlags, NoMemory};
-use wild_plan_spec::{Chunk, InputRow};
+use wild_plan_spec::{InputRow, Kept};
 
 /// What the rows of a section say of it.
 #[derive(Clone, Copy, Debug)]
@@ -79,11 +79,11 @@ impl SectionTraits {
     }
 
     /// One more row, in the section of its chunk, where it has one.
-    fn note_kept(&mut self, fate: Option<Chunk>, row: &InputRow) -> Result<(), NoMemory>
+    fn note_kept(&mut self, fate: Option<Kept>, row: &InputRow) -> Result<(), NoMemory>
         ensures { OnOk result ((s : ℕ) → traits_at self.new s ≡ (if is_in s fate then joined (traits_at self.old s) (traits_of (row.now ∷ [])) else traits_at self.old s)) }
     {
         match fate {
-            Some(chunk) => self.note(chunk.section, row),
+            Some(kept) => self.note(kept.chunk.section, row),
             None => Ok(()),
         }
     }
@@ -96,7 +96,7 @@ pub const NONE: Traits = Traits {
     exec: false,
 };
 
-fn fate_at(fates: &[Option<Chunk>], index: usize) -> Option<Chunk>
+fn fate_at(fates: &[Option<Kept>], index: usize) -> Option<Kept>
     requires { index < length fates.now }
     ensures { slice_get fates.now index ≡ Some result }
 {
@@ -107,7 +107,7 @@ fn fate_at(fates: &[Option<Chunk>], index: usize) -> Option<Chunk>
 pub fn find_traits(
     alloc: Global,
     rows: &[InputRow],
-    fates: &[Option<Chunk>],
+    fates: &[Option<Kept>],
 ) -> Result<SectionTraits, NoMemory>
     requires { length fates.now ≡ length rows.now }
     ensures { IfOk result (λ traits. (s : ℕ) → traits_at traits s ≡ traits_of (section_rows s rows.now fates.now)) }

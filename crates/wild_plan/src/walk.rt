@@ -6,20 +6,20 @@ ghost use Rattle.wild_value_spec.specs.Answer.{Returns};
 ghost use Rattle.wild_value_spec.specs.Value.{sum_of};
 ghost use Rattle.wild_eval.specs.Setting.{setting_of};
 ghost use Rattle.wild_plan_spec.specs.Chunks.{largest};
-ghost use Rattle.wild_plan_spec.specs.Line.{first_state, up, opened, row_placed, rows_placed, chunk_placed, ended, ended_alone, ended_behind, closed, location_set, passed, line};
+ghost use Rattle.wild_plan_spec.specs.Line.{first_state, up, opened, row_placed, rows_placed, chunk_placed, collected, ended, ended_alone, ended_behind, closed, location_set, passed, line};
 ghost use Rattle.wild_plan_spec.specs.Walk.{Stands, Refuses};
 ghost use Rattle.wild_plan.specs.Chunks.{rows_at};
 ghost use Rattle.wild_plan.specs.Moves.{Moves, state_of};
-ghost use Rattle.wild_plan.specs.Shown.{shown_place, shown};
+ghost use Rattle.wild_fates.specs.Shown.{shown_place, shown};
 
 use crate::chunks::Chunks;
 use crate::definitions::point_of;
 use crate::overlap::sharing;
-use crate::places::Place;
 use sqlite_items::Items;
 use std::alloc::Global;
 use wild_base::{Alignment, Fault, Name, NoMemory, alignment};
 use wild_eval::{Names, Path, Reader, Table};
+use wild_fates::Place;
 use wild_plan_spec::{Chunk, ChunkRow, PlacedLocation};
 use wild_script::Expression;
 
@@ -130,6 +130,17 @@ impl Walk {
         self.place_rows(rows)
     }
 
+    // The rows of the chunk that a matcher collects for, if it has one.
+    #[tactic(auto, unfolding(wild_plan_spec::specs::Line::collected))]
+    fn collect(&mut self, chunks: &Chunks, chunk: Option<Chunk>) -> Result<(), Fault>
+        ensures { Moves result self.new (collected (rows_at chunks.now) chunk (state_of self.old)) }
+    {
+        match chunk {
+            None => Ok(()),
+            Some(chunk) => self.place_chunk(chunks.rows(chunk)),
+        }
+    }
+
     #[tactic(auto, unfolding(wild_plan_spec::specs::Line::ended))]
     fn end(&mut self, section: usize) -> Result<(), Fault>
         ensures { Moves result self.new (ended section (state_of self.old)) }
@@ -220,8 +231,10 @@ impl Walk {
             Place::Within(_) => self.pass(number, self.counter),
             Place::Outside(_) => self.pass(number, 0),
             Place::Open(section) => self.open(section, given.names.alignment(section)),
+            Place::Collect(chunk, _) => self.collect(given.chunks, chunk),
             Place::Rows(chunk) => self.place_chunk(given.chunks.rows(chunk)),
             Place::Close(section, rest) => self.close(given, section, rest),
+            Place::Idle => Ok(()),
         }
     }
 }

@@ -18,9 +18,10 @@ use Rattle.wild_plan_spec.specs.declared.chunk.ChunkRow.{ChunkRow}
 use Rattle.wild_plan_spec.specs.declared.placed.PlacedLocation.{PlacedLocation}
 use Rattle.wild_plan_spec.specs.declared.row.InputTable.{InputTable}
 use Rattle.wild_plan_spec.specs.Definitions.{point_of}
-use Rattle.wild_plan_spec.specs.Places.{Place, SetLocation, Within, Outside, Open, Rows, Close, places_of}
+use Rattle.wild_plan_spec.specs.Places.{Place, SetLocation, Within, Outside, Open, Collect, Rows, Close, Idle}
+use Rattle.wild_plan_spec.specs.Orphans.{places_of}
 use Rattle.wild_plan_spec.specs.Settings.{setting_of}
-use Rattle.wild_plan_spec.specs.Line.{State, up, row_placed, rows_placed, chunk_placed, opened, ended, closed_by, ended_alone, ended_behind, closed, passed, location_set, line}
+use Rattle.wild_plan_spec.specs.Line.{State, up, row_placed, rows_placed, chunk_placed, collected, opened, ended, closed_by, ended_alone, ended_behind, closed, passed, location_set, line}
 use Rattle.wild_plan_spec.specs.Walk.{Stands}
 use Rattle.wild_plan_spec.specs.Fit.{IsLaid}
 use Rattle.wild_plan_spec.proofs.Standing.{place_at}
@@ -62,6 +63,10 @@ knows_more s u part same = record { known = part; locations = ([], same ∙ sym 
 pub bind_ok : {A B E : Type 0} (x : Result A E) (f : A → Result B E) (y : B) → (x >>= f) ≡ Ok y → (a : A) × (x ≡ Ok a) × (f a ≡ Ok y)
 bind_ok (Ok a) f y h = (a, refl, h)
 bind_ok (Err e) f y h = absurd (cc)
+
+-- an answer that changes nothing
+abbrev pub done : State → Result State Fault
+done st = Ok st
 
 row_grows : (c : ChunkRow) (st next : State) → row_placed c st ≡ Ok next → Grows st next
 unfolding row_placed
@@ -137,6 +142,14 @@ module _ (setting : Setting) (order : Chunk → List ChunkRow) where
       let same : record st { counter = first.0; known = with_entry (Dot i) st.counter st.known; locations = st.locations ++ record { statement = i; address = first.0 } ∷ [] } ≡ next = cc in
       subst (λ (u : State). Set i e st u) same (record { address = first.0; value = first.1; listed = refl; grown = grown_entry (Dot i) st.counter st.known })
 
+  nothing_grows : (st next : State) → done st ≡ Ok next → Grows st next
+  nothing_grows st next e = let same : st ≡ next = cc in subst (λ (u : State). Grows st u) same (grows_not st)
+
+  collected_grows : (q : Option Chunk) (st next : State) → collected order q st ≡ Ok next → Grows st next
+  unfolding collected
+  collected_grows None st next e = nothing_grows st next e
+  collected_grows (Some q) st next e = chunk_grows (order q) st next e
+
   line_grows : (i : ℕ) (p : Place) (st next : State) → line setting order i p st ≡ Ok next → Grows st next
   unfolding line
   line_grows i (SetLocation e) st next goes =
@@ -145,8 +158,10 @@ module _ (setting : Setting) (order : Chunk → List ChunkRow) where
   line_grows i (Within task) st next goes = pass_grows i st.counter st next goes
   line_grows i (Outside task) st next goes = pass_grows i 0 st next goes
   line_grows i (Open s) st next goes = open_grows s _ st next goes
+  line_grows i (Collect q m) st next goes = collected_grows q st next goes
   line_grows i (Rows q) st next goes = chunk_grows (order q) st next goes
   line_grows i (Close s rest) st next goes = rest_grows s rest st next goes
+  line_grows i Idle st next goes = nothing_grows st next goes
 
   set_line : (i : ℕ) (e : Expression) (st next : State) → line setting order i (SetLocation e) st ≡ Ok next → Set i e st next
   unfolding line

@@ -19,22 +19,24 @@ use Rattle.wild_value_spec.specs.Setting.{Setting}
 use Rattle.wild_value_spec.specs.Value.{sum_of, full}
 use Rattle.wild_plan_spec.specs.declared.chunk.Chunk.{Chunk}
 use Rattle.wild_plan_spec.specs.declared.chunk.ChunkRow.{ChunkRow}
+use Rattle.wild_plan_spec.specs.declared.chunk.Kept.{Kept}
 use Rattle.wild_plan_spec.specs.declared.row.InputRow.{InputRow}
 use Rattle.wild_plan_spec.specs.declared.row.InputTable.{InputTable}
 use Rattle.wild_plan_spec.specs.Chunks.{alignment_of, is_of, kept_rows, largest}
 use Rattle.wild_plan_spec.specs.Definitions.{point_of}
 use Rattle.wild_plan_spec.specs.Fates.{fates_of}
 use Rattle.wild_plan_spec.specs.Order.{IsOrdered, stands_before}
-use Rattle.wild_plan_spec.specs.Places.{Place, SetLocation, Within, Outside, Open, Rows, Close, places_of}
+use Rattle.wild_plan_spec.specs.Places.{Place, SetLocation, Within, Outside, Open, Collect, Rows, Close, Idle}
+use Rattle.wild_plan_spec.specs.Orphans.{places_of}
 use Rattle.wild_plan_spec.specs.Settings.{setting_of}
-use Rattle.wild_plan_spec.specs.Line.{State, up, row_placed, rows_placed, chunk_placed, opened, ended, closed_by, ended_alone, ended_behind, closed, passed, location_set, line}
+use Rattle.wild_plan_spec.specs.Line.{State, up, row_placed, rows_placed, chunk_placed, collected, opened, ended, closed_by, ended_alone, ended_behind, closed, passed, location_set, line}
 use Rattle.wild_plan_spec.specs.Walk.{Stands}
 use Rattle.wild_plan_spec.specs.Fit.{IsLaid}
 use Rattle.wild_plan_spec.proofs.Ordered.{ties_itself, none_less, sorted_tail}
 use Rattle.wild_plan_spec.proofs.RowOrder.{stands_weakly}
 use Rattle.wild_plan_spec.proofs.Standing.{place_at}
 use Rattle.wild_plan_laws.specs.Holding.{StandInPlace}
-use Rattle.wild_plan_laws.proofs.Growing.{bind_ok}
+use Rattle.wild_plan_laws.proofs.Growing.{done, bind_ok}
 
 -- ---- multiples
 
@@ -166,7 +168,7 @@ module _ (rows : List InputRow) where
   ordered_rows xs ys f all = all_from ys (λ i c there. one_of (ties stands_before c) ys i c there (ties_itself stands_before stands_weakly c)
       (subst AllRows (sym (f.stable c)) (all_filter (ties stands_before c) xs all)))
 
-  kept_of : (n : ℕ) (rs : List InputRow) (fates : List (Option Chunk)) → ((i : ℕ) → slice_get rows (n + i) ≡ slice_get rs i) → AllRows (kept_rows n rs fates)
+  kept_of : (n : ℕ) (rs : List InputRow) (fates : List (Option Kept)) → ((i : ℕ) → slice_get rows (n + i) ≡ slice_get rs i) → AllRows (kept_rows n rs fates)
   kept_of n [] fates h = tt
   kept_of n (row ∷ rs) [] h = tt
   kept_of n (row ∷ rs) (None ∷ fates) h = kept_of (n + 1) rs fates (λ i. let e : n + 1 + i ≡ n + suc i = omega arith in rw e (h (suc i)))
@@ -266,6 +268,14 @@ module _ (rows : List InputRow) where
         let first = bind_ok (chunk_placed (order q) st) (ended_alone setting s) next e in
         alone_aligned s first.0 next (chunk_aligned (order q) st first.0 (all q) (falling q) h first.1) first.2
 
+    nothing_aligned : (st next : State) → InPlace st.known → done st ≡ Ok next → InPlace next.known
+    nothing_aligned st next h e = let same : st ≡ next = cc in subst (λ (u : State). InPlace u.known) same h
+
+    collected_aligned : (q : Option Chunk) (st next : State) → InPlace st.known → collected order q st ≡ Ok next → InPlace next.known
+    unfolding collected
+    collected_aligned None st next h e = nothing_aligned st next h e
+    collected_aligned (Some q) st next h e = chunk_aligned (order q) st next (all q) (falling q) h e
+
     line_aligned : (i : ℕ) (p : Place) (st next : State) → InPlace st.known → line setting order i p st ≡ Ok next → InPlace next.known
     unfolding line location_set
     line_aligned i (SetLocation e) st next h goes =
@@ -276,8 +286,10 @@ module _ (rows : List InputRow) where
     line_aligned i (Within task) st next h goes = pass_aligned i st.counter st next h goes
     line_aligned i (Outside task) st next h goes = pass_aligned i 0 st next h goes
     line_aligned i (Open s) st next h goes = open_aligned s _ st next h goes
+    line_aligned i (Collect q m) st next h goes = collected_aligned q st next h goes
     line_aligned i (Rows q) st next h goes = chunk_aligned (order q) st next (all q) (falling q) h goes
     line_aligned i (Close s rest) st next h goes = rest_aligned s rest st next h goes
+    line_aligned i Idle st next h goes = nothing_aligned st next h goes
 
     before_aligned : (places : List Place) (k : ℕ) (state : State) (s : Stands setting order places k state) (i : ℕ) → i ≤ k → InPlace (s.before i).known
     before_aligned places k state s zero low = subst (λ (u : State). InPlace u.known) (sym s.first) (λ r row a there at. absurd (cc))

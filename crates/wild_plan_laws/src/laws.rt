@@ -6,7 +6,8 @@ ghost use Rattle.wild_plan_laws.specs.Holding.{Holds, StandInPlace};
 ghost use Rattle.wild_plan_spec.specs.declared.row.InputTable.{InputTable};
 ghost use Rattle.wild_plan_spec.specs.Fit.{IsLaid};
 ghost use Rattle.wild_plan_spec.specs.Line.{State};
-ghost use Rattle.wild_plan_spec.specs.Places.{SetLocation, places_of};
+ghost use Rattle.wild_plan_spec.specs.Orphans.{places_of};
+ghost use Rattle.wild_plan_spec.specs.Places.{SetLocation};
 ghost use Rattle.wild_script.specs.Tree.{Bytes};
 ghost use Rattle.wild_script.specs.declared.tree.LinkerScript.{LinkerScript};
 

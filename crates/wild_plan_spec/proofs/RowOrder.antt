@@ -1,7 +1,8 @@
 -- The order of the rows of a chunk.
 use Rattle.std.proofs.Common.{◌≡◌, Bool, List}
 use Rattle.std.specs.List.{filter}
-use Rattle.std.specs.Cmp.{IsStrictWeakOrder, IsTotalOrder, nat_cmp_total}
+use Rattle.std.specs.Cmp.{IsStrictWeakOrder, IsTotalOrder, nat_cmp_total, bool_cmp_total}
+use Rattle.std.specs.Cmp.Lexicographic.{nat_list_cmp_total}
 use Rattle.std.proofs.lemmas.Cmp.{on_total, then_total, back_total}
 use Rattle.std.proofs.lemmas.List.Sorted.{ranks_by}
 use Rattle.wild_plan_spec.specs.declared.chunk.Chunk.{Chunk}
@@ -15,8 +16,10 @@ chunk_total = then_total (on_total (λ (q : Chunk). q.«section») nat_cmp_total
 row_total : IsTotalOrder row_cmp
 row_total =
     then_total (on_total (λ (r : ChunkRow). r.alignment.0) (back_total nat_cmp_total))
+    (then_total (on_total (λ (r : ChunkRow). r.sorted) bool_cmp_total)
+    (then_total (on_total (λ (r : ChunkRow). r.name) nat_list_cmp_total)
     (then_total (on_total (λ (r : ChunkRow). r.row) nat_cmp_total)
-    (then_total (on_total (λ (r : ChunkRow). r.size) nat_cmp_total) (on_total (λ (r : ChunkRow). r.chunk) chunk_total)))
+    (then_total (on_total (λ (r : ChunkRow). r.size) nat_cmp_total) (on_total (λ (r : ChunkRow). r.chunk) chunk_total)))))
 
 pub stands_weakly : IsStrictWeakOrder stands_before
 stands_weakly = ranks_by row_total (λ (r : ChunkRow). r)

@@ -9,7 +9,7 @@ use Rattle.wild_plan_spec.specs.declared.chunk.ChunkRow.{ChunkRow}
 use Rattle.wild_plan_spec.specs.declared.placed.PlacedSymbol.{PlacedSymbol}
 use Rattle.wild_plan_spec.specs.declared.row.InputTable.{InputTable}
 use Rattle.wild_plan_spec.specs.Settings.{setting_of}
-use Rattle.wild_plan_spec.specs.Places.{places_of}
+use Rattle.wild_plan_spec.specs.Orphans.{places_of}
 use Rattle.wild_plan_spec.specs.Line.{State}
 use Rattle.wild_plan_spec.specs.Walk.{Stands, Refuses}
 use Rattle.wild_plan_spec.specs.End.{finished}

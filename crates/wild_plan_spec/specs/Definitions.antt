@@ -5,6 +5,7 @@ use Rattle.wild_script.specs.declared.tree.ProvideSymbolDefinition.{ProvideSymbo
 use Rattle.wild_value_spec.specs.declared.value.Point.{Point}
 use Rattle.wild_value_spec.specs.Setting.{Definition, OfRow, OfScript}
 use Rattle.wild_plan_spec.specs.declared.chunk.Chunk.{Chunk}
+use Rattle.wild_plan_spec.specs.declared.chunk.Kept.{Kept}
 use Rattle.wild_plan_spec.specs.declared.row.SymbolRow.{SymbolRow}
 use Rattle.wild_plan_spec.specs.Names.{Name}
 use Rattle.wild_plan_spec.specs.Places.{Place, Task, Assign, Provide, task_of}
@@ -21,21 +22,22 @@ entry_of (b ∷ bs) d = record { name = b ∷ bs; definition = d } ∷ []
 
 -- ---- symbols of the table
 
--- the fate of a row, where there is one
-abbrev pub row_fate : Option (Option Chunk) → Option Chunk
-row_fate None = None
-row_fate (Some fate) = fate
+-- the chunk of a row, where there is such a row and it is kept
+abbrev pub row_chunk : Option (Option Kept) → Option Chunk
+row_chunk None = None
+row_chunk (Some None) = None
+row_chunk (Some (Some k)) = Some k.chunk
 
 -- the chunk that holds a symbol: that of its row
-abbrev pub symbol_chunk : List (Option Chunk) → SymbolRow → Option Chunk
-symbol_chunk fates symbol = row_fate (slice_get fates symbol.row)
+abbrev pub symbol_chunk : List (Option Kept) → SymbolRow → Option Chunk
+symbol_chunk fates symbol = row_chunk (slice_get fates symbol.row)
 
 abbrev pub table_entry : SymbolRow → Option Chunk → List Entry
 table_entry symbol None = []
 table_entry symbol (Some chunk) = entry_of symbol.name (OfRow symbol.row symbol.offset chunk.«section»)
 
 -- in table order
-abbrev pub table_entries : List (Option Chunk) → List SymbolRow → List Entry
+abbrev pub table_entries : List (Option Kept) → List SymbolRow → List Entry
 table_entries fates [] = []
 table_entries fates (s ∷ ss) = table_entry s (symbol_chunk fates s) ++ table_entries fates ss
 
@@ -69,11 +71,11 @@ provided_entries i (p ∷ ps) = provided_by i (task_of p) ++ provided_entries (i
 -- ---- the definition that counts
 
 -- what must not be defined twice
-abbrev pub firm_entries : List (Option Chunk) → List SymbolRow → List Place → List Entry
+abbrev pub firm_entries : List (Option Kept) → List SymbolRow → List Place → List Entry
 firm_entries fates symbols ps = table_entries fates symbols ++ assigned_entries 0 ps
 
 -- all entries, those of PROVIDE last
-abbrev pub all_entries : List (Option Chunk) → List SymbolRow → List Place → List Entry
+abbrev pub all_entries : List (Option Kept) → List SymbolRow → List Place → List Entry
 all_entries fates symbols ps = firm_entries fates symbols ps ++ provided_entries 0 ps
 
 abbrev pub entry_names : List Entry → List Name

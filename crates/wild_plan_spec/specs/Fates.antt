@@ -1,33 +1,34 @@
 -- Where each row goes.
-use Rattle.std.specs.Prelude.{ℕ, Bool, not, List, [], ◌∷◌, ◌++◌, Option, Some, None, if◌then◌else◌}
+use Rattle.std.specs.Prelude.{ℕ, Bool, false, not, List, [], ◌∷◌, ◌++◌, Option, Some, None, if◌then◌else◌}
 use Rattle.std.specs.List.{filter, list_any}
 use Rattle.wild_base.specs.InputFlags.{is_exclude}
 use Rattle.wild_base.specs.Numbering.{is_named, number_of}
 use Rattle.wild_script.specs.declared.tree.LinkerScript.{LinkerScript}
 use Rattle.wild_script.specs.declared.tree.Section.{Section}
-use Rattle.wild_plan_spec.specs.declared.chunk.Chunk.{Chunk}
+use Rattle.wild_plan_spec.specs.declared.chunk.Kept.{Kept}
 use Rattle.wild_plan_spec.specs.declared.chunk.Decision.{Decision}
 use Rattle.wild_plan_spec.specs.declared.chunk.Decision.TheVariants.{Discard, Keep, ByName}
 use Rattle.wild_plan_spec.specs.declared.row.InputRow.{InputRow}
 use Rattle.wild_plan_spec.specs.declared.row.InputTable.{InputTable}
 use Rattle.wild_plan_spec.specs.Names.{Name}
-use Rattle.wild_plan_spec.specs.Rules.{Rule, rules_of, chunk_of}
+use Rattle.wild_plan_spec.specs.Rules.{Rule, rules_of, first_rule}
 use Rattle.wild_plan_spec.specs.Statements.{sections_of}
 
 -- ---- what is decided without the names of sections
 
-abbrev pub rule_decision : Option Chunk → Decision
+-- what the first rule that takes a row decides; without one its name decides
+abbrev pub rule_decision : Option Rule → Decision
 rule_decision None = ByName
-rule_decision (Some q) = Keep q
+rule_decision (Some rule) = rule.decision
 
--- without a name it is discarded; with one the first rule that takes it decides, or else the name
-abbrev pub name_decision : List Rule → Name → Decision
-name_decision rules [] = Discard
-name_decision rules (b ∷ bs) = rule_decision (chunk_of rules (b ∷ bs))
+-- a row of this name: without one it is discarded
+abbrev pub name_decision : Name → List Rule → InputRow → Decision
+name_decision [] rules row = Discard
+name_decision (b ∷ bs) rules row = rule_decision (first_rule rules row)
 
 -- what is to be left out is discarded
 unfoldable pub decision : List Rule → InputRow → Decision
-decision rules row = if is_exclude row.flags then Discard else name_decision rules row.«section»
+decision rules row = if is_exclude row.flags then Discard else name_decision row.«section» rules row
 
 -- ---- the names of sections
 
@@ -42,7 +43,7 @@ firsts (x ∷ xs) = x ∷ filter (lacks (x ∷ [])) (firsts xs)
 abbrev pub asked_by : Name → Decision → List Name
 asked_by x ByName = x ∷ []
 asked_by x Discard = []
-asked_by x (Keep q) = []
+asked_by x (Keep k) = []
 
 -- the names that rows go by
 abbrev pub names_asked : List Rule → List InputRow → List Name
@@ -67,24 +68,24 @@ section_names t inputs = names_of (sections_of t) ++ orphans_of t inputs
 
 -- ---- fates
 
--- the first chunk of a section
-abbrev pub first_chunk : Option ℕ → Option Chunk
+-- the first chunk of a section, where nothing is sorted
+abbrev pub first_chunk : Option ℕ → Option Kept
 first_chunk None = None
-first_chunk (Some s) = Some (record { «section» = s; number = 0 })
+first_chunk (Some s) = Some (record { chunk = record { «section» = s; number = 0 }; sorted = false })
 
-abbrev pub fate_by : List Name → Name → Decision → Option Chunk
+abbrev pub fate_by : List Name → Name → Decision → Option Kept
 fate_by names x Discard = None
-fate_by names x (Keep q) = Some q
+fate_by names x (Keep k) = Some k
 fate_by names x ByName = first_chunk (number_of x names)
 
--- the chunk of a row among sections of these names, or None where it is discarded
-abbrev pub fate : List Rule → List Name → InputRow → Option Chunk
+-- where a row goes among sections of these names, or None where it is discarded
+abbrev pub fate : List Rule → List Name → InputRow → Option Kept
 fate rules names row = fate_by names row.«section» (decision rules row)
 
-abbrev pub all_fates : List Rule → List Name → List InputRow → List (Option Chunk)
+abbrev pub all_fates : List Rule → List Name → List InputRow → List (Option Kept)
 all_fates rules names [] = []
 all_fates rules names (row ∷ rows) = fate rules names row ∷ all_fates rules names rows
 
 -- the fate of each row, in table order
-abbrev pub fates_of : LinkerScript → InputTable → List (Option Chunk)
+abbrev pub fates_of : LinkerScript → InputTable → List (Option Kept)
 fates_of t inputs = all_fates (rules_of t) (section_names t inputs) inputs.rows

@@ -12,7 +12,7 @@ use Rattle.wild_plan_spec.specs.Settings.{setting_of}
 use Rattle.wild_plan_spec.specs.Chunks.{rows_in}
 use Rattle.wild_plan_spec.specs.Order.{IsOrdered, stands_before}
 use Rattle.wild_plan_spec.specs.Checks.{checks, failing}
-use Rattle.wild_plan_spec.specs.Places.{places_of}
+use Rattle.wild_plan_spec.specs.Orphans.{places_of}
 use Rattle.wild_plan_spec.specs.Line.{State}
 use Rattle.wild_plan_spec.specs.Walk.{Stands, Refuses}
 use Rattle.wild_plan_spec.specs.End.{finished}

@@ -5,6 +5,7 @@ use Rattle.wild_base.specs.InputFlags.{is_write, is_exec}
 use Rattle.wild_base.specs.declared.input_flags.InputFlags.{InputFlags}
 use Rattle.wild_script.specs.declared.tree.LinkerScript.{LinkerScript}
 use Rattle.wild_plan_spec.specs.declared.chunk.Chunk.{Chunk}
+use Rattle.wild_plan_spec.specs.declared.chunk.Kept.{Kept}
 use Rattle.wild_plan_spec.specs.declared.row.InputRow.{InputRow}
 use Rattle.wild_plan_spec.specs.declared.row.InputTable.{InputTable}
 use Rattle.wild_plan_spec.specs.declared.row.SymbolRow.{SymbolRow}
@@ -54,17 +55,17 @@ placed_section known s x rows = record {
 }
 
 -- the first section of the list has the number s
-abbrev pub placed_sections : Known → List InputRow → List (Option Chunk) → ℕ → List Name → List PlacedSection
+abbrev pub placed_sections : Known → List InputRow → List (Option Kept) → ℕ → List Name → List PlacedSection
 placed_sections known rows fates s [] = []
 placed_sections known rows fates s (x ∷ xs) = placed_section known s x (section_rows s rows fates) ∷ placed_sections known rows fates (s + 1) xs
 
 -- row n, in its chunk
-abbrev pub placed_input : Known → ℕ → Option Chunk → PlacedInput
+abbrev pub placed_input : Known → ℕ → Option Kept → PlacedInput
 placed_input known n None = Discarded
-placed_input known n (Some chunk) = Placed chunk.«section» chunk.number (number_at known (Address n))
+placed_input known n (Some k) = Placed k.chunk.«section» k.chunk.number (number_at known (Address n))
 
 -- the first row of the list has the number n
-abbrev pub placed_inputs : Known → ℕ → List (Option Chunk) → List PlacedInput
+abbrev pub placed_inputs : Known → ℕ → List (Option Kept) → List PlacedInput
 placed_inputs known n [] = []
 placed_inputs known n (fate ∷ fates) = placed_input known n fate ∷ placed_inputs known (n + 1) fates
 
@@ -78,7 +79,7 @@ table_symbol known s None = []
 table_symbol known s (Some chunk) = record { name = s.name; address = (number_at known (Address s.row) + s.offset) % 2 ^ 64; «section» = Some chunk.«section»; hidden = false } ∷ []
 
 -- in table order
-abbrev pub table_symbols : Known → List (Option Chunk) → List SymbolRow → List PlacedSymbol
+abbrev pub table_symbols : Known → List (Option Kept) → List SymbolRow → List PlacedSymbol
 table_symbols known fates [] = []
 table_symbols known fates (s ∷ ss) = table_symbol known s (symbol_chunk fates s) ++ table_symbols known fates ss
 

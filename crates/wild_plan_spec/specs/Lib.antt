@@ -1,11 +1,12 @@
 pub mod Names
 pub mod Statements
+pub mod Places
 pub mod Rules
 pub mod Fates
+pub mod Orphans
 pub mod Chunks
 pub mod Order
 pub mod Built
-pub mod Places
 pub mod Definitions
 pub mod Settings
 pub mod Checks

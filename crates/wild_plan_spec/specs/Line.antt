@@ -13,7 +13,7 @@ use Rattle.wild_plan_spec.specs.declared.chunk.ChunkRow.{ChunkRow}
 use Rattle.wild_plan_spec.specs.declared.placed.PlacedLocation.{PlacedLocation}
 use Rattle.wild_plan_spec.specs.Chunks.{largest}
 use Rattle.wild_plan_spec.specs.Definitions.{point_of}
-use Rattle.wild_plan_spec.specs.Places.{Place, SetLocation, Within, Outside, Open, Rows, Close}
+use Rattle.wild_plan_spec.specs.Places.{Place, SetLocation, Within, Outside, Open, Collect, Rows, Close, Idle}
 
 -- what stands before a place
 pub record State : Type 0 where
@@ -51,6 +51,11 @@ unfoldable pub chunk_placed : List ChunkRow → State → Result State Fault
 chunk_placed rows st =
     up st.cursor (largest rows) >>= (λ n.
     rows_placed rows (record st { cursor = n }))
+
+-- the rows of the chunk that a matcher collects for, if it has one
+unfoldable pub collected : (Chunk → List ChunkRow) → Option Chunk → State → Result State Fault
+collected rows None st = Ok st
+collected rows (Some q) st = chunk_placed (rows q) st
 
 -- ---- sections
 
@@ -120,5 +125,7 @@ module _ (setting : Setting) where
   line rows i (Within task) st = passed i st.counter st
   line rows i (Outside task) st = passed i 0 st
   line rows i (Open s) st = opened s (setting.alignment s) st
+  line rows i (Collect q m) st = collected rows q st
   line rows i (Rows q) st = chunk_placed (rows q) st
   line rows i (Close s rest) st = closed rows s rest st
+  line rows i Idle st = Ok st

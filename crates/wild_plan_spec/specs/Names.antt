@@ -1,5 +1,9 @@
 -- A name is a list of bytes.
-use Rattle.std.specs.Prelude.{ℕ, List}
+use Rattle.std.specs.Prelude.{ℕ, List, [], Option, Some, None}
 
 abbrev pub Name : Type 0
 Name = List ℕ
+
+abbrev pub or_empty : Option Name → Name
+or_empty (Some name) = name
+or_empty None = []

@@ -1,7 +1,8 @@
 -- The order of the rows of a chunk.
 use Rattle.std.specs.Prelude.{Bool, List}
-use Rattle.std.specs.Ordering.{is_lt, nat_cmp, ordering_then}
+use Rattle.std.specs.Ordering.{is_lt, nat_cmp, bool_cmp, ordering_then}
 use Rattle.std.specs.declared.cmp.Ordering.{Ordering}
+use Rattle.std.specs.Cmp.Lexicographic.{slice_cmp}
 use Rattle.std.specs.List.Sorted.{IsSortedBy, IsStableBy}
 use Rattle.wild_plan_spec.specs.declared.chunk.Chunk.{Chunk}
 use Rattle.wild_plan_spec.specs.declared.chunk.ChunkRow.{ChunkRow}
@@ -14,9 +15,15 @@ pub record IsOrdered {X : Type 0} (lt : X → X → Bool) (xs ys : List X) : Typ
 abbrev pub chunk_cmp : Chunk → Chunk → Ordering
 chunk_cmp a b = ordering_then (nat_cmp a.«section» b.«section») (nat_cmp a.number b.number)
 
--- by falling alignment, then in table order; the rest never decides, since no two rows have one number
+-- by falling alignment, unsorted before sorted, sorted ones by the bytes of their names, then in table order; the rest never
+-- decides, since no two rows have one number
 abbrev pub row_cmp : ChunkRow → ChunkRow → Ordering
-row_cmp a b = ordering_then (nat_cmp b.alignment.0 a.alignment.0) (ordering_then (nat_cmp a.row b.row) (ordering_then (nat_cmp a.size b.size) (chunk_cmp a.chunk b.chunk)))
+row_cmp a b =
+    ordering_then (nat_cmp b.alignment.0 a.alignment.0)
+    (ordering_then (bool_cmp a.sorted b.sorted)
+    (ordering_then (slice_cmp nat_cmp a.name b.name)
+    (ordering_then (nat_cmp a.row b.row)
+    (ordering_then (nat_cmp a.size b.size) (chunk_cmp a.chunk b.chunk)))))
 
 abbrev pub stands_before : ChunkRow → ChunkRow → Bool
 stands_before a b = is_lt (row_cmp a b)

@@ -1,5 +1,5 @@
 -- The places of a script, as one numbered list.
-use Rattle.std.specs.Prelude.{ℕ, ◌+◌, List, [], ◌∷◌, ◌++◌, length, Option, Some, None}
+use Rattle.std.specs.Prelude.{ℕ, ◌+◌, List, [], ◌∷◌, ◌++◌, length, if◌then◌else◌, Option, Some, None}
 use Rattle.wild_expression_tree.specs.declared.tree.AssertCommand.{AssertCommand}
 use Rattle.wild_expression_tree.specs.declared.tree.Expression.{Expression}
 use Rattle.wild_script.specs.declared.tree.LinkerScript.{LinkerScript}
@@ -10,12 +10,11 @@ use Rattle.wild_script.specs.declared.tree.Section.{Section}
 use Rattle.wild_script.specs.declared.tree.SectionCommand.{SectionCommand}
 use Rattle.wild_script.specs.declared.tree.SectionCommand.TheVariants as inner
 use Rattle.wild_script.specs.declared.tree.ContentsCommand.{ContentsCommand}
-use Rattle.wild_script.specs.declared.tree.ContentsCommand.TheVariants.{Matcher}
+use Rattle.wild_script.specs.declared.tree.ContentsCommand.TheVariants.{Matcher as OfMatcher}
+use Rattle.wild_script.specs.declared.tree.Matcher.{Matcher}
 use Rattle.wild_plan_spec.specs.declared.chunk.Chunk.{Chunk}
 use Rattle.wild_plan_spec.specs.Names.{Name}
-use Rattle.wild_plan_spec.specs.declared.row.InputTable.{InputTable}
-use Rattle.wild_plan_spec.specs.Fates.{orphans_of}
-use Rattle.wild_plan_spec.specs.Statements.{Statement, Inner, Outer, statements_of, sections_of}
+use Rattle.wild_plan_spec.specs.Statements.{Statement, Inner, Outer, is_discard, statements_of, sections_of}
 
 -- what is evaluated once all places are laid out
 pub data Task : Type 0 where
@@ -37,10 +36,14 @@ pub data Place : Type 0 where
   Outside : Task → Place
   -- the section of this number begins
   Open : ℕ → Place
-  -- the rows of a chunk
+  -- a matcher, with the rows of the chunk for which it collects; those of `/DISCARD/` collect for none
+  Collect : Option Chunk → Matcher → Place
+  -- the rows of the one chunk of an orphan
   Rows : Chunk → Place
   -- the rest of the section of this number is placed, where it has a chunk of its own, and the section ends
   Close : ℕ → Option Chunk → Place
+  -- `/DISCARD/` begins or ends, which does nothing
+  Idle : Place
 
 -- the task of a place
 abbrev pub task_of : Place → Option Task
@@ -48,22 +51,34 @@ task_of (Within task) = Some task
 task_of (Outside task) = Some task
 task_of p = None
 
+-- the chunks of matchers up to behind a place, where k stand before it
+abbrev pub next_chunk : ℕ → Place → ℕ
+next_chunk k (Collect (Some q) m) = k + 1
+next_chunk k p = k
+
 -- the statements of section s, whose next chunk has this number
 abbrev pub contents_places : ℕ → ℕ → List ContentsCommand → List Place
 contents_places s number [] = []
-contents_places s number (Matcher m ∷ cs) = Rows (record { «section» = s; number = number }) ∷ contents_places s (number + 1) cs
+contents_places s number (OfMatcher m ∷ cs) = Collect (Some (record { «section» = s; number = number })) m ∷ contents_places s (number + 1) cs
 
 -- a section without matchers has a chunk of its own for what joins it by name
 abbrev pub rest_chunk : ℕ → List ContentsCommand → Option Chunk
 rest_chunk s [] = Some (record { «section» = s; number = 0 })
-rest_chunk s (Matcher m ∷ cs) = None
+rest_chunk s (OfMatcher m ∷ cs) = None
 
 abbrev pub section_places : ℕ → Section → List Place
 section_places s x = Open s ∷ (contents_places s 0 x.commands ++ Close s (rest_chunk s x.commands) ∷ [])
 
+abbrev pub discarding_places : List ContentsCommand → List Place
+discarding_places [] = []
+discarding_places (OfMatcher m ∷ cs) = Collect None m ∷ discarding_places cs
+
+abbrev pub discard_places : Section → List Place
+discard_places x = Idle ∷ (discarding_places x.commands ++ Idle ∷ [])
+
 -- a statement in SECTIONS, whose section, if it is one, has the number s
 abbrev pub inner_places : ℕ → SectionCommand → List Place
-inner_places s (inner.Section x) = section_places s x
+inner_places s (inner.Section x) = if is_discard x then discard_places x else section_places s x
 inner_places s (inner.SetLocation l) = SetLocation l.address ∷ []
 inner_places s (inner.SymbolAssignment a) = Within (Assign a.name a.expr) ∷ []
 inner_places s (inner.Provide d) = Within (Provide d) ∷ []
@@ -83,7 +98,7 @@ statement_places s (Outer c) = outer_places c
 
 -- the number of the next section behind a statement
 abbrev pub next_section : ℕ → Statement → ℕ
-next_section s (Inner (inner.Section x)) = s + 1
+next_section s (Inner (inner.Section x)) = if is_discard x then s else s + 1
 next_section s st = s
 
 -- the next section of the list has the number s
@@ -94,12 +109,3 @@ all_places s (st ∷ sts) = statement_places s st ++ all_places (next_section s 
 -- in text order
 abbrev pub script_places : LinkerScript → List Place
 script_places t = all_places 0 (statements_of t)
-
--- orphan sections, each with one chunk; the first has the number s
-abbrev pub orphan_places : ℕ → List Name → List Place
-orphan_places s [] = []
-orphan_places s (x ∷ xs) = Open s ∷ Rows (record { «section» = s; number = 0 }) ∷ Close s None ∷ orphan_places (s + 1) xs
-
--- those of the script, and behind them those of the orphans
-abbrev pub places_of : LinkerScript → InputTable → List Place
-places_of t inputs = script_places t ++ orphan_places (length (sections_of t)) (orphans_of t inputs)

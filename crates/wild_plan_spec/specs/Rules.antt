@@ -1,42 +1,58 @@
--- The rules by which a script collects input sections.
-use Rattle.std.specs.Prelude.{ℕ, ◌+◌, Bool, List, [], ◌∷◌, ◌++◌, Option}
-use Rattle.std.specs.Option.{option_map}
+-- The rules by which a script decides of input sections.
+use Rattle.std.specs.Prelude.{Bool, ◌&&◌, List, [], ◌∷◌, ◌++◌, Option, Some, None, Result, Ok, Err}
 use Rattle.std.specs.List.{find}
-use Rattle.std.specs.Str.{bytes_eq}
+use Rattle.wild_glob.specs.declared.piece.Piece.{Piece}
+use Rattle.wild_rules.specs.declared.fault.RuleFault.{RuleFault}
+use Rattle.wild_rules.specs.declared.matcher.SectionNameMatcher.{SectionNameMatcher}
+use Rattle.wild_rules.specs.Making.{names_of, files_of}
+use Rattle.wild_rules.specs.Taking.{takes_name, takes_file}
 use Rattle.wild_script.specs.declared.tree.LinkerScript.{LinkerScript}
-use Rattle.wild_script.specs.declared.tree.Section.{Section}
-use Rattle.wild_script.specs.declared.tree.ContentsCommand.{ContentsCommand}
-use Rattle.wild_script.specs.declared.tree.ContentsCommand.TheVariants.{Matcher}
+use Rattle.wild_script.specs.declared.tree.Matcher.{Matcher}
 use Rattle.wild_script.specs.declared.tree.SectionPattern.{SectionPattern}
 use Rattle.wild_plan_spec.specs.declared.chunk.Chunk.{Chunk}
+use Rattle.wild_plan_spec.specs.declared.chunk.Decision.{Decision}
+use Rattle.wild_plan_spec.specs.declared.chunk.Decision.TheVariants.{Discard, Keep}
+use Rattle.wild_plan_spec.specs.declared.row.InputRow.{InputRow}
 use Rattle.wild_plan_spec.specs.Names.{Name}
-use Rattle.wild_plan_spec.specs.Statements.{sections_of}
+use Rattle.wild_plan_spec.specs.Places.{Place, Collect, script_places}
 
--- an input section of this name goes to this chunk
+-- of input sections of these names, in these files or in all, it decides this
 pub record Rule : Type 0 where
-  pub name : Name
-  pub chunk : Chunk
+  pub names : SectionNameMatcher
+  pub files : Option (List Piece)
+  pub decision : Decision
 
-abbrev pub pattern_rules : Chunk → List SectionPattern → List Rule
-pattern_rules q [] = []
-pattern_rules q (p ∷ ps) = record { name = p.name; chunk = q } ∷ pattern_rules q ps
+-- the rule of two patterns; they make none where one of them has no reading
+abbrev pub rule_of : Result (Option (List Piece)) RuleFault → Result SectionNameMatcher RuleFault → Decision → List Rule
+rule_of (Err f) names d = []
+rule_of (Ok files) (Err f) d = []
+rule_of (Ok files) (Ok names) d = record { names = names; files = files; decision = d } ∷ []
 
--- the matchers of a section are its chunks, numbered in text order
-abbrev pub contents_rules : ℕ → ℕ → List ContentsCommand → List Rule
-contents_rules s number [] = []
-contents_rules s number (Matcher m ∷ cs) = pattern_rules (record { «section» = s; number = number }) m.input_section_name_patterns ++ contents_rules s (number + 1) cs
+-- what a pattern decides in a matcher that collects for this chunk, or for none
+abbrev pub decided : Option Chunk → SectionPattern → Decision
+decided None p = Discard
+decided (Some q) p = Keep (record { chunk = q; sorted = p.sorted })
 
-abbrev pub section_rules : ℕ → List Section → List Rule
-section_rules s [] = []
-section_rules s (x ∷ xs) = contents_rules s 0 x.commands ++ section_rules (s + 1) xs
+abbrev pub pattern_rules : Option Chunk → Option Name → List SectionPattern → List Rule
+pattern_rules q file [] = []
+pattern_rules q file (p ∷ ps) = rule_of (files_of file) (names_of p.name) (decided q p) ++ pattern_rules q file ps
 
--- one rule for each pattern of each matcher, in text order
+-- one rule for each pattern of a matcher
+abbrev pub place_rules : Place → List Rule
+place_rules (Collect q m) = pattern_rules q m.input_file_pattern m.input_section_name_patterns
+place_rules p = []
+
+abbrev pub rules_in : List Place → List Rule
+rules_in [] = []
+rules_in (p ∷ ps) = place_rules p ++ rules_in ps
+
+-- the rules of a script, in text order
 abbrev pub rules_of : LinkerScript → List Rule
-rules_of t = section_rules 0 (sections_of t)
+rules_of t = rules_in (script_places t)
 
-abbrev pub has_name : Name → Rule → Bool
-has_name x rule = bytes_eq rule.name x
+abbrev pub takes_row : InputRow → Rule → Bool
+takes_row row rule = takes_name rule.names row.«section» && takes_file rule.files (Some row.file)
 
--- the chunk of an input section of this name: that of the first rule of the name
-abbrev pub chunk_of : List Rule → Name → Option Chunk
-chunk_of rules x = option_map (λ rule. rule.chunk) (find (has_name x) rules)
+-- the first rule that takes the row
+abbrev pub first_rule : List Rule → InputRow → Option Rule
+first_rule rules row = find (takes_row row) rules

@@ -5,23 +5,19 @@ use Rattle.wild_base.specs.Numbering.{number_of}
 use Rattle.wild_script.specs.Tree.{Bytes}
 use Rattle.wild_script.specs.declared.tree.LinkerScript.{LinkerScript}
 use Rattle.wild_value_spec.specs.Setting.{Setting, line_of}
-use Rattle.wild_plan_spec.specs.declared.chunk.Chunk.{Chunk}
+use Rattle.wild_plan_spec.specs.declared.chunk.Kept.{Kept}
 use Rattle.wild_plan_spec.specs.declared.row.InputRow.{InputRow}
 use Rattle.wild_plan_spec.specs.declared.row.InputTable.{InputTable}
 use Rattle.wild_plan_spec.specs.Chunks.{section_rows, largest_alignment}
 use Rattle.wild_plan_spec.specs.Definitions.{Entry, definition_in, all_entries}
 use Rattle.wild_plan_spec.specs.Fates.{section_names, fates_of}
-use Rattle.wild_plan_spec.specs.Names.{Name}
-use Rattle.wild_plan_spec.specs.Places.{places_of}
+use Rattle.wild_plan_spec.specs.Names.{Name, or_empty}
+use Rattle.wild_plan_spec.specs.Orphans.{places_of}
 
 -- the largest alignment of each section's rows, as exponents; the first section of the list has the number s
-abbrev pub alignments_of : List InputRow → List (Option Chunk) → ℕ → List Name → List ℕ
+abbrev pub alignments_of : List InputRow → List (Option Kept) → ℕ → List Name → List ℕ
 alignments_of rows fates s [] = []
 alignments_of rows fates s (x ∷ xs) = largest_alignment (section_rows s rows fates) ∷ alignments_of rows fates (s + 1) xs
-
-abbrev pub or_empty : Option Name → Name
-or_empty (Some name) = name
-or_empty None = []
 
 -- sections of these names and alignments, which are numbered in order from 0, and these symbols
 abbrev pub setting_with : List Name → List ℕ → List Entry → Bytes → Setting

@@ -1,5 +1,6 @@
 -- The statements of a script, as one list.
-use Rattle.std.specs.Prelude.{List, [], ◌∷◌, ◌++◌}
+use Rattle.std.specs.Prelude.{Bool, List, [], ◌∷◌, ◌++◌, if◌then◌else◌, codes}
+use Rattle.std.specs.Str.{bytes_eq}
 use Rattle.wild_script.specs.declared.tree.LinkerScript.{LinkerScript}
 use Rattle.wild_script.specs.declared.tree.Command.{Command}
 use Rattle.wild_script.specs.declared.tree.Command.TheVariants.{Sections, SymbolDefinition, SetLocation, Provide, Assert}
@@ -33,14 +34,18 @@ all_statements (c ∷ cs) = command_statements c ++ all_statements cs
 abbrev pub statements_of : LinkerScript → List Statement
 statements_of t = all_statements t.commands
 
+-- `/DISCARD/` is no section of the output: what it collects is discarded
+unfoldable pub is_discard : Section → Bool
+is_discard s = bytes_eq s.output_section_name (codes "/DISCARD/")
+
 abbrev pub sections_in : Statement → List Section
-sections_in (Inner (OfSection s)) = s ∷ []
+sections_in (Inner (OfSection s)) = if is_discard s then [] else s ∷ []
 sections_in st = []
 
 abbrev pub statement_sections : List Statement → List Section
 statement_sections [] = []
 statement_sections (st ∷ sts) = sections_in st ++ statement_sections sts
 
--- the sections of a script in text order; their numbers are their places in this list
+-- the sections of a script other than `/DISCARD/`, in text order; their numbers are their places in this list
 abbrev pub sections_of : LinkerScript → List Section
 sections_of t = statement_sections (statements_of t)

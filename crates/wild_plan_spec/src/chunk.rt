@@ -1,7 +1,7 @@
 //! Chunks of sections, and the rows in them.
 
 use std::cmp::Reverse;
-use wild_base::Alignment;
+use wild_base::{Alignment, Name};
 
 /// What one matcher collects: the chunk of this number in the section of this number, both from 0 in text order.
 #[derive(Clone, Copy, Debug, PartialEq, Eq, PartialOrd, Ord)]
@@ -10,10 +10,22 @@ pub struct Chunk {
     pub number: usize,
 }
 
-/// A row of a chunk. Rows stand in the order of the fields: by falling alignment, then in table order.
-#[derive(Clone, Copy, Debug, PartialEq, Eq, PartialOrd, Ord)]
+/// Where a row that is kept goes.
+#[derive(Clone, Copy, Debug, PartialEq, Eq)]
+pub struct Kept {
+    pub chunk: Chunk,
+    /// Whether it stands by the name of its section.
+    pub sorted: bool,
+}
+
+/// A row of a chunk. Rows stand in the order of the fields: by falling alignment, unsorted before sorted, sorted ones by
+/// the bytes of their names, then in table order.
+#[derive(Debug, Drop, PartialEq, Eq, PartialOrd, Ord)]
 pub struct ChunkRow {
     pub alignment: Reverse<Alignment>,
+    pub sorted: bool,
+    /// The name of its section where it is sorted, else empty.
+    pub name: Name,
     /// The number of the row in its table.
     pub row: usize,
     /// In bytes.
@@ -26,8 +38,8 @@ pub struct ChunkRow {
 #[derive(Clone, Copy, Debug, PartialEq, Eq)]
 pub enum Decision {
     Discard,
-    /// A rule takes it to this chunk.
-    Keep(Chunk),
+    /// A rule keeps it.
+    Keep(Kept),
     /// It goes to the section of its own name.
     ByName,
 }

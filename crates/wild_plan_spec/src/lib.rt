@@ -7,7 +7,7 @@ mod options;
 mod placed;
 mod row;
 
-pub use chunk::{Chunk, ChunkRow, Decision};
+pub use chunk::{Chunk, ChunkRow, Decision, Kept};
 pub use laws::{one_fault, one_plan_fits, plan_or_fault, rows_have_one_order};
 pub use options::PlanOptions;
 pub use placed::{Names, PlacedInput, PlacedLocation, PlacedSection, PlacedSymbol, RowNames};

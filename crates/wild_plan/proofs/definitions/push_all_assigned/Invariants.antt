@@ -1,7 +1,7 @@
 use Rattle.std.proofs.Common.{◌≡◌, ◌++◌, drop}
 use Rattle.wild_plan_spec.specs.Definitions.{assigned_entries}
 use Rattle.wild_plan.specs.Entries.{shown_entries}
-use Rattle.wild_plan.specs.Shown.{shown}
+use Rattle.wild_fates.specs.Shown.{shown}
 use Rattle.wild_plan.proofs.definitions.push_all_assigned.Given as goal
 
 abbrev pub invariant-loop-index : goal.invariant-loop-index

@@ -1,6 +1,6 @@
 use Rattle.std.proofs.Common.{◌≡◌, ◌++◌, drop}
 use Rattle.wild_plan.specs.Listed.{sections_by}
-use Rattle.wild_plan.specs.Pointed.{pointed}
+use Rattle.wild_fates.specs.Pointed.{pointed}
 use Rattle.wild_eval.specs.Table.{known_of}
 use Rattle.wild_plan.specs.Traits.{traits_at}
 use Rattle.wild_plan.proofs.listing.placed_sections.Given as goal

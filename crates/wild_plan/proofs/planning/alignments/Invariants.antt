@@ -1,6 +1,6 @@
 use Rattle.std.proofs.Common.{◌≡◌, ◌++◌, drop}
 use Rattle.wild_plan.specs.Listed.{alignments_by}
-use Rattle.wild_plan.specs.Pointed.{pointed}
+use Rattle.wild_fates.specs.Pointed.{pointed}
 use Rattle.wild_plan.specs.Traits.{traits_at}
 use Rattle.wild_plan.proofs.planning.alignments.Given as goal
 

@@ -1,6 +1,6 @@
 use Rattle.std.proofs.lemmas.Result.{err_from_is_err_and, IfOk-weaker, IfErr-weaker}
 use Rattle.wild_plan_spec.specs.Checks.{row_checks, symbol_checks}
-use Rattle.wild_plan.proofs.Failing.{wanted_before, wanted_behind, none_behind}
+use Rattle.wild_fates.proofs.Failing.{wanted_before, wanted_behind, none_behind}
 use Rattle.wild_plan.proofs.planning.check_table.Goals as goal
 
 pub returns-in_err-check_rows-clause-err : goal.returns-in_err-check_rows-clause-err

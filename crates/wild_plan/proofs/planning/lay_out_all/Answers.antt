@@ -4,7 +4,7 @@ use Rattle.std.proofs.lemmas.Result.{err_from_is_err_and}
 use Rattle.wild_plan.specs.Chunks.{rows_at}
 use Rattle.wild_plan.specs.Listed.{alignments_by}
 use Rattle.wild_plan.specs.Moves.{state_of}
-use Rattle.wild_plan.specs.Shown.{shown}
+use Rattle.wild_fates.specs.Shown.{shown}
 use Rattle.wild_plan.specs.Traits.{traits_at}
 use Rattle.wild_plan.proofs.Composing.{refused, laid, end_refused, finishes, traits_fates}
 use Rattle.wild_plan.proofs.planning.lay_out_all.Goals as goal

@@ -4,9 +4,9 @@ use Rattle.std.proofs.lemmas.Result.{err_from_is_err_and}
 use Rattle.wild_eval.specs.Setting.{setting_of}
 use Rattle.wild_plan_spec.specs.Walk.{Stands}
 use Rattle.wild_plan.specs.Chunks.{rows_at}
-use Rattle.wild_plan.specs.Shown.{shown}
+use Rattle.wild_fates.specs.Shown.{shown}
 use Rattle.wild_plan_spec.proofs.Standing.{stands_first, stands_more, refuses_at}
-use Rattle.wild_plan.proofs.Shown.{shown_at, shown_length}
+use Rattle.wild_fates.proofs.Shown.{shown_at, shown_length}
 use Rattle.wild_plan.proofs.walk.lay_out.Goals as goal
 
 pub loop-number-init : goal.loop-number-init

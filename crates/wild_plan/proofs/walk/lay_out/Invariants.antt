@@ -2,7 +2,7 @@ use Rattle.wild_eval.specs.Setting.{setting_of}
 use Rattle.wild_plan_spec.specs.Walk.{Stands}
 use Rattle.wild_plan.specs.Chunks.{rows_at}
 use Rattle.wild_plan.specs.Moves.{state_of}
-use Rattle.wild_plan.specs.Shown.{shown}
+use Rattle.wild_fates.specs.Shown.{shown}
 use Rattle.wild_plan.proofs.walk.lay_out.Given as goal
 
 abbrev pub invariant-loop-number : goal.invariant-loop-number

@@ -2,7 +2,7 @@ use Rattle.std.proofs.Common.{◌≡◌, drop}
 use Rattle.wild_eval.specs.Setting.{setting_of}
 use Rattle.wild_eval.specs.Table.{known_of}
 use Rattle.wild_plan_spec.specs.End.{conditions}
-use Rattle.wild_plan.specs.Shown.{shown}
+use Rattle.wild_fates.specs.Shown.{shown}
 use Rattle.wild_plan.proofs.ends.End.conditions.Given as goal
 
 abbrev pub invariant-loop-index : goal.invariant-loop-index

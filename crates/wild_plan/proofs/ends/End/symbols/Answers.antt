@@ -3,7 +3,7 @@ use Rattle.std.proofs.lemmas.List.{at_drop_more}
 use Rattle.wild_eval.specs.Setting.{setting_of}
 use Rattle.wild_eval.specs.Table.{known_of}
 use Rattle.wild_plan_spec.specs.End.{symbols}
-use Rattle.wild_plan.specs.Shown.{shown, shown_place}
+use Rattle.wild_fates.specs.Shown.{shown, shown_place}
 use Rattle.wild_plan.proofs.Named.{symbols_more}
 use Rattle.wild_plan.proofs.ends.End.symbols.Goals as goal
 

@@ -2,7 +2,7 @@ use Rattle.std.proofs.Common.{◌≡◌, [], drop}
 use Rattle.wild_eval.specs.Setting.{setting_of}
 use Rattle.wild_eval.specs.Table.{known_of}
 use Rattle.wild_plan_spec.specs.End.{symbols}
-use Rattle.wild_plan.specs.Shown.{shown}
+use Rattle.wild_fates.specs.Shown.{shown}
 use Rattle.wild_plan.proofs.ends.End.symbols.Given as goal
 
 abbrev pub invariant-loop-index : goal.invariant-loop-index

@@ -1,0 +1,36 @@
+-- The first failure among checks that follow each other.
+use Rattle.std.proofs.Common.{◌≡◌, ◌∙◌, inl, inr, Bool, true, false, not, List, [], ◌∷◌, ◌++◌, cond, refl, Option, Some, None}
+use Rattle.std.specs.Option.{option_map, option_or}
+use Rattle.wild_base.specs.declared.fault.Fault.{Fault}
+use Rattle.wild_plan_spec.specs.Checks.{Check, failing}
+use Rattle.wild_fates.specs.Passes.{IsWanted}
+
+failing_by : (b : Bool) (c : Check) (first both next : Option Check) → option_map (λ c. c.fault) both ≡ option_or (option_map (λ c. c.fault) first) (option_map (λ c. c.fault) next)
+    → option_map (λ c. c.fault) (cond b (Some c) both) ≡ option_or (option_map (λ c. c.fault) (cond b (Some c) first)) (option_map (λ c. c.fault) next)
+failing_by true c first both next e = refl
+failing_by false c first both next e = e
+
+-- the first failure of the first checks, or else that of the others
+pub failing_append : (xs ys : List Check) → failing (xs ++ ys) ≡ option_or (failing xs) (failing ys)
+failing_append [] ys = refl
+failing_append (c ∷ xs) ys = failing_by (not c.holds) c _ _ _ (failing_append xs ys)
+
+-- where none of the first fails, the others decide
+pub failing_behind : (xs ys : List Check) → failing xs ≡ None → failing (xs ++ ys) ≡ failing ys
+failing_behind xs ys none = failing_append xs ys ∙ rw none refl
+
+-- a failure among the first is that of all
+pub failing_before : (xs ys : List Check) (fault : Fault) → failing xs ≡ Some fault → failing (xs ++ ys) ≡ Some fault
+failing_before xs ys fault some = failing_append xs ys ∙ rw some refl
+
+-- the same of a fault that is wanted
+pub wanted_before : (xs ys : List Check) (fault : Fault) → IsWanted (failing xs) fault → IsWanted (failing (xs ++ ys)) fault
+wanted_before xs ys fault (inl h) = inl h
+wanted_before xs ys fault (inr h) = inr (failing_before xs ys fault h)
+
+pub wanted_behind : (xs ys : List Check) (fault : Fault) → failing xs ≡ None → IsWanted (failing ys) fault → IsWanted (failing (xs ++ ys)) fault
+wanted_behind xs ys fault none (inl h) = inl h
+wanted_behind xs ys fault none (inr h) = inr (failing_behind xs ys none ∙ h)
+
+pub none_behind : (xs ys : List Check) → failing xs ≡ None → failing ys ≡ None → failing (xs ++ ys) ≡ None
+none_behind xs ys a b = failing_behind xs ys a ∙ b

@@ -1,0 +1,10 @@
+pub mod Names
+pub mod Pointed
+pub mod Shown
+pub mod Failing
+pub mod Numbered
+pub mod Patterns
+pub mod Steps
+pub mod Orphaned
+pub mod Orphans
+pub mod Parts

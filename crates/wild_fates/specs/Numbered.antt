@@ -1,0 +1,72 @@
+-- Rules whose ids are the numbers of chunks, and what they decide.
+use Rattle.std.specs.Prelude.{ℕ, Bool, List, [], ◌∷◌, ◌++◌, slice_get, Option, Some, None, Result, Ok, Err}
+use Rattle.std.specs.Option.{option_to_list}
+use Rattle.wild_rules.specs.declared.fault.RuleFault.{RuleFault}
+use Rattle.wild_rules.specs.declared.outcome.SectionRuleOutcome.{SectionRuleOutcome}
+use Rattle.wild_rules.specs.declared.outcome.SectionRuleOutcome.TheVariants as sends
+use Rattle.wild_rules.specs.Making.{script_rule}
+use Rattle.wild_rules.specs.Rule as rules
+use Rattle.wild_script.specs.declared.tree.SectionPattern.{SectionPattern}
+use Rattle.wild_plan_spec.specs.declared.chunk.Chunk.{Chunk}
+use Rattle.wild_plan_spec.specs.declared.chunk.Decision.{Decision}
+use Rattle.wild_plan_spec.specs.declared.chunk.Decision.TheVariants as decides
+use Rattle.wild_plan_spec.specs.Names.{Name}
+use Rattle.wild_plan_spec.specs.Places.{Place, Collect, next_chunk}
+use Rattle.wild_plan_spec.specs.Rules.{Rule}
+
+-- ---- what a rule decides
+
+abbrev pub kept_in : Bool → Option Chunk → Decision
+kept_in sorted None = decides.Discard
+kept_in sorted (Some q) = decides.Keep (record { chunk = q; sorted = sorted })
+
+-- scripts make rules of two outcomes
+abbrev pub outcome_decision : List Chunk → SectionRuleOutcome → Decision
+outcome_decision chunks (sends.Section info) = kept_in info.sorted (slice_get chunks info.section_id)
+outcome_decision chunks outcome = decides.Discard
+
+abbrev pub seen_rule : List Chunk → rules.Rule → Rule
+seen_rule chunks rule = record { names = rule.matcher; files = rule.file; decision = outcome_decision chunks rule.outcome }
+
+abbrev pub seen : List Chunk → List rules.Rule → List Rule
+seen chunks [] = []
+seen chunks (r ∷ rs) = seen_rule chunks r ∷ seen chunks rs
+
+-- ---- the rules that are made
+
+-- to the chunk of this number, or nowhere
+abbrev pub outcome_for : Option ℕ → Bool → SectionPattern → SectionRuleOutcome
+outcome_for None must_keep p = sends.Discard
+outcome_for (Some k) must_keep p = sends.Section (record { section_id = k; must_keep = must_keep; sorted = p.sorted })
+
+abbrev pub rule_list : Result rules.Rule RuleFault → List rules.Rule
+rule_list (Ok rule) = rule ∷ []
+rule_list (Err f) = []
+
+abbrev pub numbered_patterns : Option ℕ → Bool → Option Name → List SectionPattern → List rules.Rule
+numbered_patterns k must_keep file [] = []
+numbered_patterns k must_keep file (p ∷ ps) = rule_list (script_rule p.name file (outcome_for k must_keep p)) ++ numbered_patterns k must_keep file ps
+
+-- the number of a chunk behind k chunks
+abbrev pub number_for : ℕ → Option Chunk → Option ℕ
+number_for k None = None
+number_for k (Some q) = Some k
+
+-- the rules of a place behind k chunks
+abbrev pub numbered_place : ℕ → Place → List rules.Rule
+numbered_place k (Collect q m) = numbered_patterns (number_for k q) m.must_keep m.input_file_pattern m.input_section_name_patterns
+numbered_place k p = []
+
+abbrev pub numbered : ℕ → List Place → List rules.Rule
+numbered k [] = []
+numbered k (p ∷ ps) = numbered_place k p ++ numbered (next_chunk k p) ps
+
+-- ---- the chunks that have numbers
+
+abbrev pub chunks_at : Place → List Chunk
+chunks_at (Collect q m) = option_to_list q
+chunks_at p = []
+
+abbrev pub chunks_in : List Place → List Chunk
+chunks_in [] = []
+chunks_in (p ∷ ps) = chunks_at p ++ chunks_in ps

@@ -1,0 +1,33 @@
+-- What the parts of a script and a table are.
+use Rattle.std.specs.Prelude.{◌≡◌, ◌-◌, ◌++◌, List, length}
+use Rattle.wild_script.specs.declared.tree.LinkerScript.{LinkerScript}
+use Rattle.wild_plan_spec.specs.declared.row.InputRow.{InputRow}
+use Rattle.wild_plan_spec.specs.declared.row.InputTable.{InputTable}
+use Rattle.wild_plan_spec.specs.Statements.{sections_of}
+use Rattle.wild_plan_spec.specs.Rules.{Rule}
+use Rattle.wild_plan_spec.specs.Fates.{orphans, names_asked, all_fates, section_names, fates_of}
+use Rattle.wild_plan_spec.specs.Names.{Name}
+use Rattle.wild_plan_spec.specs.Places.{Place, script_places}
+use Rattle.wild_plan_spec.specs.Orphans.{places_of}
+use Rattle.wild_fates.specs.declared.placing.Parts.{Parts}
+use Rattle.wild_fates.specs.declared.placing.Placed.{Placed}
+use Rattle.wild_fates.specs.Orphaned.{orphans_from}
+use Rattle.wild_fates.specs.Pointed.{pointed}
+use Rattle.wild_fates.specs.Shown.{shown}
+
+-- the sections and the places of a script
+pub record IsParts (t : LinkerScript) (parts : Parts) : Type 0 where
+  pub sections : pointed parts.sections ≡ sections_of t
+  pub places : shown parts.places ≡ script_places t
+
+-- where rows go by these rules, with orphans behind these places and these sections
+pub record IsPlacedBy (places : List Place) (rules : List Rule) (own : List Name) (rows : List InputRow) (placed : Placed) : Type 0 where
+  pub names : placed.names ≡ own ++ orphans own (names_asked rules rows)
+  pub fates : placed.fates ≡ all_fates rules (own ++ orphans own (names_asked rules rows)) rows
+  pub all_places : shown placed.places ≡ places ++ orphans_from (length own) (length (own ++ orphans own (names_asked rules rows)) - length own)
+
+-- where the rows of a table go
+pub record IsPlaced (t : LinkerScript) (inputs : InputTable) (placed : Placed) : Type 0 where
+  pub names : placed.names ≡ section_names t inputs
+  pub fates : placed.fates ≡ fates_of t inputs
+  pub places : shown placed.places ≡ places_of t inputs

@@ -1,0 +1,14 @@
+//! Where each row of a table goes: the places of a script, its rules and its sections, with orphans behind them.
+#![tactic(auto)]
+
+mod built;
+mod fates;
+mod places;
+mod placing;
+mod rules;
+mod section_names;
+mod statements;
+
+pub use places::{Place, Task};
+pub use placing::{Placed, place_rows};
+pub use section_names::SectionNames;

@@ -1,0 +1,258 @@
+//! The places of a script, as one numbered list.
+
+ghost use Rattle.std.specs.Prelude.{◌≡◌, ◌<◌, ◌+◌, ◌-◌, ◌^◌, [], ◌∷◌, ◌++◌, if◌then◌else◌, OnOk, IfOk};
+ghost use Rattle.wild_plan_spec.specs.Places.{task_of, contents_places, rest_chunk, section_places, discarding_places, discard_places, inner_places, outer_places, statement_places, next_section, all_places};
+ghost use Rattle.wild_plan_spec.specs.Statements.{is_discard};
+ghost use Rattle.wild_fates.specs.Orphaned.{orphan_place, orphans_from};
+ghost use Rattle.wild_fates.specs.Shown.{shown, shown_place, shown_task, shown_statement, shown_statements};
+
+use crate::statements::{Statement, is_discard};
+use sqlite_items::Items;
+use std::alloc::Global;
+use wild_base::{Name, NoMemory};
+use wild_plan_spec::Chunk;
+use wild_script::{
+    AssertCommand, Command, ContentsCommand, Expression, Matcher, ProvideSymbolDefinition, Section,
+    SectionCommand,
+};
+
+/// What is evaluated once all places are laid out.
+#[derive(Clone, Copy, Debug)]
+pub enum Task<'a> {
+    /// A symbol becomes the value of the expression.
+    Assign(&'a Name, &'a Expression),
+    /// The same, where nothing else defines it.
+    Provide(&'a ProvideSymbolDefinition),
+    /// The location counter becomes that outside of SECTIONS, where it has no effect.
+    Locate(&'a Expression),
+    /// The condition must hold.
+    Check(&'a AssertCommand),
+}
+
+/// A place of a script. A section has an Open, the places of its statements, and a Close; any other statement has one.
+#[derive(Clone, Copy, Debug)]
+pub enum Place<'a> {
+    /// The location counter becomes the value of the expression.
+    SetLocation(&'a Expression),
+    /// A task in SECTIONS.
+    Within(Task<'a>),
+    /// The task of an outermost statement.
+    Outside(Task<'a>),
+    /// The section of this number begins.
+    Open(usize),
+    /// A matcher, with the rows of the chunk for which it collects; those of `/DISCARD/` collect for none.
+    Collect(Option<Chunk>, &'a Matcher),
+    /// The rows of the one chunk of an orphan.
+    Rows(Chunk),
+    /// The rest of the section of this number is placed, where it has a chunk of its own, and the section ends.
+    Close(usize, Option<Chunk>),
+    /// `/DISCARD/` begins or ends, which does nothing.
+    Idle,
+}
+
+impl<'a> Place<'a> {
+    /// The task of the place.
+    pub fn task(&self) -> Option<Task<'a>>
+        ensures { shown_task result ≡ task_of (shown_place self.now) }
+    {
+        match *self {
+            Place::Within(task) | Place::Outside(task) => Some(task),
+            _ => None,
+        }
+    }
+}
+
+#[tactic(auto, using(crate::proofs::Shown::shown_append))]
+fn push<'a>(places: &mut Items<Place<'a>>, place: Place<'a>) -> Result<(), NoMemory>
+    ensures { OnOk result (shown places.new ≡ shown places.old ++ shown_place place.entry ∷ []) }
+{
+    places.push(place)?;
+    Ok(())
+}
+
+fn push_contents<'a>(
+    places: &mut Items<Place<'a>>,
+    section: usize,
+    commands: &'a [ContentsCommand],
+) -> Result<(), NoMemory>
+    ensures { OnOk result (shown places.new ≡ shown places.old ++ contents_places section 0 commands.now) }
+{
+    let mut number = 0;
+    for command in commands {
+        match command {
+            ContentsCommand::Matcher(matcher) => {
+                let chunk = Chunk { section, number };
+                push(places, Place::Collect(Some(chunk), matcher))?;
+                number += 1;
+            }
+        }
+    }
+    Ok(())
+}
+
+// A section without matchers has a chunk of its own for what joins it by name.
+fn rest_chunk(section: usize, commands: &[ContentsCommand]) -> Option<Chunk>
+    ensures { result ≡ rest_chunk section commands.now }
+{
+    match commands {
+        [] => Some(Chunk { section, number: 0 }),
+        [ContentsCommand::Matcher(_), ..] => None,
+    }
+}
+
+fn push_section<'a>(
+    places: &mut Items<Place<'a>>,
+    number: usize,
+    section: &'a Section,
+) -> Result<(), NoMemory>
+    ensures { OnOk result (shown places.new ≡ shown places.old ++ section_places number section.now) }
+{
+    push(places, Place::Open(number))?;
+    let commands = section.commands.as_slice();
+    push_contents(places, number, commands)?;
+    push(places, Place::Close(number, rest_chunk(number, commands)))?;
+    Ok(())
+}
+
+fn push_discarding<'a>(
+    places: &mut Items<Place<'a>>,
+    commands: &'a [ContentsCommand],
+) -> Result<(), NoMemory>
+    ensures { OnOk result (shown places.new ≡ shown places.old ++ discarding_places commands.now) }
+{
+    for command in commands {
+        match command {
+            ContentsCommand::Matcher(matcher) => push(places, Place::Collect(None, matcher))?,
+        }
+    }
+    Ok(())
+}
+
+fn push_discard<'a>(places: &mut Items<Place<'a>>, section: &'a Section) -> Result<(), NoMemory>
+    ensures { OnOk result (shown places.new ≡ shown places.old ++ discard_places section.now) }
+{
+    push(places, Place::Idle)?;
+    push_discarding(places, section.commands.as_slice())?;
+    push(places, Place::Idle)?;
+    Ok(())
+}
+
+// A section, which has this number unless it is `/DISCARD/`.
+fn push_any_section<'a>(
+    places: &mut Items<Place<'a>>,
+    number: usize,
+    section: &'a Section,
+) -> Result<(), NoMemory>
+    ensures { OnOk result (shown places.new ≡ shown places.old ++ (if is_discard section.now then discard_places section.now else section_places number section.now)) }
+{
+    if is_discard(section) {
+        push_discard(places, section)
+    } else {
+        push_section(places, number, section)
+    }
+}
+
+fn push_inner<'a>(
+    places: &mut Items<Place<'a>>,
+    number: usize,
+    command: &'a SectionCommand,
+) -> Result<(), NoMemory>
+    ensures { OnOk result (shown places.new ≡ shown places.old ++ inner_places number command.now) }
+{
+    match command {
+        SectionCommand::Section(section) => push_any_section(places, number, section.get()),
+        SectionCommand::SetLocation(location) => {
+            push(places, Place::SetLocation(&location.address))
+        }
+        SectionCommand::SymbolAssignment(assignment) => push(
+            places,
+            Place::Within(Task::Assign(&assignment.name, &assignment.expr)),
+        ),
+        SectionCommand::Provide(definition) => {
+            push(places, Place::Within(Task::Provide(definition)))
+        }
+        SectionCommand::Assert(command) => push(places, Place::Within(Task::Check(command))),
+    }
+}
+
+fn push_outer<'a>(places: &mut Items<Place<'a>>, command: &'a Command) -> Result<(), NoMemory>
+    ensures { OnOk result (shown places.new ≡ shown places.old ++ outer_places command.now) }
+{
+    match command {
+        Command::SymbolDefinition { name, value } => {
+            push(places, Place::Outside(Task::Assign(name, value)))
+        }
+        Command::SetLocation(location) => {
+            push(places, Place::Outside(Task::Locate(&location.address)))
+        }
+        Command::Provide(definition) => push(places, Place::Outside(Task::Provide(definition))),
+        Command::Assert(command) => push(places, Place::Outside(Task::Check(command))),
+        Command::Sections(_) => Ok(()),
+    }
+}
+
+fn push_statement<'a>(
+    places: &mut Items<Place<'a>>,
+    number: usize,
+    statement: &Statement<'a>,
+) -> Result<(), NoMemory>
+    ensures { OnOk result (shown places.new ≡ shown places.old ++ statement_places number (shown_statement statement.now)) }
+{
+    match *statement {
+        Statement::Inner(command) => push_inner(places, number, command),
+        Statement::Outer(command) => push_outer(places, command),
+    }
+}
+
+// The number of the next section behind a statement.
+fn next_section(number: usize, statement: &Statement<'_>) -> usize
+    requires { number + 1 < 2 ^ 64 }
+    ensures { result ≡ next_section number (shown_statement statement.now) }
+{
+    match *statement {
+        Statement::Inner(SectionCommand::Section(section)) if !is_discard(section.get()) => {
+            number + 1
+        }
+        _ => number,
+    }
+}
+
+/// The places of these statements, whose sections are numbered in order from 0. Fails where memory runs out.
+pub fn find_places<'a>(
+    alloc: Global,
+    statements: &[Statement<'a>],
+) -> Result<Items<Place<'a>>, NoMemory>
+    ensures { IfOk result (λ places. shown places ≡ all_places 0 (shown_statements statements.now)) }
+{
+    let mut places = Items::new(alloc);
+    let mut number = 0;
+    for statement in statements {
+        push_statement(&mut places, number, statement)?;
+        number = next_section(number, statement);
+    }
+    Ok(places)
+}
+
+// A section with one chunk.
+fn push_orphan(places: &mut Items<Place<'_>>, section: usize) -> Result<(), NoMemory>
+    ensures { OnOk result (shown places.new ≡ shown places.old ++ orphan_place section) }
+{
+    push(places, Place::Open(section))?;
+    push(places, Place::Rows(Chunk { section, number: 0 }))?;
+    push(places, Place::Close(section, None))?;
+    Ok(())
+}
+
+/// Puts orphan sections with the numbers from `first` up to `count` behind the others. Fails where memory runs out.
+pub fn push_orphans(
+    places: &mut Items<Place<'_>>,
+    first: usize,
+    count: usize,
+) -> Result<(), NoMemory>
+    ensures { OnOk result (shown places.new ≡ shown places.old ++ orphans_from first (count - first)) }
+{
+    for section in first..count {
+        push_orphan(places, section)?;
+    }
+    Ok(())
+}

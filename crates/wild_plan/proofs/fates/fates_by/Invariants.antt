@@ -1,6 +1,0 @@
-use Rattle.std.proofs.Common.{◌≡◌, ◌++◌, drop}
-use Rattle.wild_plan.specs.Collected.{fates_by}
-use Rattle.wild_plan.proofs.fates.fates_by.Given as goal
-
-abbrev pub invariant-loop-i : goal.invariant-loop-i
-invariant-loop-i l = l.fates ++ fates_by l.sections (drop l.i l.rows) (drop l.i l.decisions) ≡ fates_by l.sections l.rows l.decisions

@@ -1,7 +1,0 @@
-use Rattle.std.proofs.Common.{◌≡◌, ◌++◌, ◌-◌}
-use Rattle.wild_plan.specs.Orphaned.{orphans_from}
-use Rattle.wild_plan.specs.Shown.{shown}
-use Rattle.wild_plan.proofs.places.push_orphans.Given as goal
-
-abbrev pub invariant-loop-section : goal.invariant-loop-section
-invariant-loop-section l = shown l.places ++ orphans_from l.«section» (l.count - l.«section») ≡ shown l.fn.places ++ orphans_from l.first (l.count - l.first)
