@@ -18,7 +18,7 @@ use Rattle.wild_plan_spec.specs.Names.{Name}
 use Rattle.wild_plan_spec.specs.Places.{Place, SetLocation, Within, Outside, Open, Collect, Rows, Close, Idle, next_chunk, script_places}
 use Rattle.wild_plan_spec.specs.Statements.{sections_of}
 use Rattle.wild_fates.specs.Numbered.{rule_list, numbered_patterns, outcome_for, numbered_place, numbered, chunks_at, chunks_in}
-use Rattle.wild_fates.specs.Passes.{IsWanted, PassesWith}
+use Rattle.wild_fates.specs.Passes.{IsWanted, Passes}
 use Rattle.wild_fates.specs.Refused.{bad_name}
 use Rattle.wild_fates.proofs.Failing.{failing_behind, wanted_before, wanted_behind, none_behind}
 use Rattle.wild_fates.proofs.Patterns.{makes, refuses}
@@ -29,12 +29,12 @@ abbrev failed : RuleFault → Result rules.Rule RuleFault
 failed e = Err e
 
 module _ (n : ℕ) (file : Option Name) (p : SectionPattern) (o : SectionRuleOutcome) where
-  pub passes_made : {A X : Type 0} (x : X) (rule : rules.Rule) → (Ok rule ≡ script_rule p.name file o) ⊎ (A × (Ok rule ≡ Err reason.NoMemory)) → PassesWith (failing (pattern_check n file p)) (Ok x)
+  pub passes_made : {A X : Type 0} (x : X) (rule : rules.Rule) → (Ok rule ≡ script_rule p.name file o) ⊎ (A × (Ok rule ≡ Err reason.NoMemory)) → Passes (failing (pattern_check n file p)) (Ok x)
   passes_made x rule (inl h) = record { ok = makes n p o file rule (sym h); err = tt }
   passes_made x rule (inr h) = let never = h.1 in cc
 
   pub refuses_bad : {A X : Type 0} (e : RuleFault) (f : Fault) → (failed e ≡ script_rule p.name file o) ⊎ (A × (failed e ≡ failed reason.NoMemory)) → (f ≡ fault.NoMemory) ⊎ (f ≡ fault.BadPattern n (bad_name file p.name e)) → (e ≡ reason.NoMemory → f ≡ fault.NoMemory)
-      → PassesWith {X = X} (failing (pattern_check n file p)) (Err f)
+      → Passes {X = X} (failing (pattern_check n file p)) (Err f)
   refuses_bad e f h (inl none) g = record { ok = tt; err = inl none }
   refuses_bad e f (inl h) (inr bad) g = record { ok = tt; err = inr (refuses n p o file e (sym h) ∙ ap Some (sym bad)) }
   refuses_bad e f (inr h) (inr bad) g = record { ok = tt; err = inl (g (let same = h.1 in cc)) }

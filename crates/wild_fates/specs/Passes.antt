@@ -11,12 +11,7 @@ abbrev pub IsWanted : Option Fault → Fault → Type 0
 IsWanted wanted fault = (fault ≡ NoMemory) ⊎ (wanted ≡ Some fault)
 
 -- it passes where no fault is wanted, and else has the fault, unless memory ran out
-pub record Passes (wanted : Option Fault) (result : Result (Unit {0}) Fault) : Type 0 where
-  pub ok : IfOk result (λ u. wanted ≡ None)
-  pub err : IfErr result (IsWanted wanted)
-
--- the same of a check that answers more
-pub record PassesWith {X : Type 0} (wanted : Option Fault) (result : Result X Fault) : Type 0 where
+pub record Passes {X : Type 0} (wanted : Option Fault) (result : Result X Fault) : Type 0 where
   pub ok : IfOk result (λ x. wanted ≡ None)
   pub err : IfErr result (IsWanted wanted)
 

@@ -4,7 +4,7 @@ ghost use Rattle.std.specs.Prelude.{◌≡◌, ◌∷◌, ◌++◌, [], IfOk};
 ghost use Rattle.wild_base.specs.declared.fault.Fault.TheVariants.{DuplicateSection};
 ghost use Rattle.wild_plan_spec.specs.Checks.{name_checks, script_checks, failing};
 ghost use Rattle.wild_plan_spec.specs.Fates.{names_of};
-ghost use Rattle.wild_fates.specs.Passes.{PassesWith, repeated};
+ghost use Rattle.wild_fates.specs.Passes.{Passes, repeated};
 ghost use Rattle.wild_fates.specs.Parts.{IsParts, IsPlacedBy, IsPlaced};
 ghost use Rattle.wild_fates.specs.Pointed.{pointed};
 ghost use Rattle.wild_fates.specs.Shown.{shown};
@@ -54,7 +54,7 @@ fn push_section<'a>(
     section: &'a Section,
 ) -> Result<SectionNames<'a>, Fault>
     ensures pushed { IfOk result (λ next. next ≡ names.entry ++ section.now.output_section_name ∷ []) }
-    ensures passes { PassesWith (repeated DuplicateSection names.entry section.now.output_section_name) result }
+    ensures passes { Passes (repeated DuplicateSection names.entry section.now.output_section_name) result }
 {
     let name = &section.output_section_name;
     if names.get(name).is_some() {
@@ -68,7 +68,7 @@ fn push_section<'a>(
 // one.
 fn number_sections<'a>(alloc: Global, sections: &[&'a Section]) -> Result<SectionNames<'a>, Fault>
     ensures names { IfOk result (λ names. names ≡ names_of (pointed sections.now)) }
-    ensures passes { PassesWith (failing (name_checks DuplicateSection [] (names_of (pointed sections.now)))) result }
+    ensures passes { Passes (failing (name_checks DuplicateSection [] (names_of (pointed sections.now)))) result }
 {
     let mut names = SectionNames::new(alloc);
     for section in sections {
@@ -111,7 +111,7 @@ pub fn place_rows<'a>(
     inputs: &'a InputTable,
 ) -> Result<Placed<'a>, Fault>
     ensures placed { IfOk result (IsPlaced script.now inputs.now) }
-    ensures passes { PassesWith (failing (script_checks script.now)) result }
+    ensures passes { Passes (failing (script_checks script.now)) result }
 {
     let Parts { sections, places } = find_parts(alloc, script)?;
     let rules = find_rules(alloc, places.as_slice())?;

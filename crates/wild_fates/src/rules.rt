@@ -10,7 +10,7 @@ ghost use Rattle.wild_plan_spec.specs.Fates.{name_decision};
 ghost use Rattle.wild_plan_spec.specs.Rules.{rules_in};
 ghost use Rattle.wild_fates.specs.Numbered.{outcome_decision, outcome_for, rule_list, numbered_patterns, numbered_place, number_for, chunks_at, chunks_in, numbered};
 ghost use Rattle.wild_fates.specs.Refused.{bad_name};
-ghost use Rattle.wild_fates.specs.Passes.{Passes, PassesWith};
+ghost use Rattle.wild_fates.specs.Passes.{Passes};
 ghost use Rattle.wild_fates.specs.Shown.{shown_task, shown_place, shown};
 
 use crate::built::is_built;
@@ -147,7 +147,7 @@ fn pattern_rule(
     pattern: &SectionPattern,
 ) -> Result<SectionRule, Fault>
     ensures rule { IfOk result (λ rule. rule_list (script_rule pattern.now.name matcher.now.input_file_pattern (outcome_for id matcher.now.must_keep pattern.now)) ≡ rule ∷ []) }
-    ensures passes { PassesWith (failing (pattern_check statement matcher.now.input_file_pattern pattern.now)) result }
+    ensures passes { Passes (failing (pattern_check statement matcher.now.input_file_pattern pattern.now)) result }
 {
     let file = &matcher.input_file_pattern;
     let outcome = outcome_for(id, matcher.must_keep, pattern);
@@ -204,7 +204,7 @@ fn number_chunk(
 ) -> Result<Option<OutputSectionId>, Fault>
     ensures pushed { OnOk result (chunks.new ≡ chunks.old ++ option_to_list chunk) }
     ensures number { IfOk result (λ id. id ≡ number_for (length chunks.old) chunk) }
-    ensures passes { PassesWith (failing (chunk_checks (length chunks.old) chunk)) result }
+    ensures passes { Passes (failing (chunk_checks (length chunks.old) chunk)) result }
 {
     let Some(chunk) = chunk else {
         return Ok(None);
@@ -263,7 +263,7 @@ impl Reading {
 fn read_all(alloc: Global, places: &[Place<'_>]) -> Result<Reading, Fault>
     ensures rules { IfOk result (λ reading. reading.rules ≡ numbered 0 (shown places.now)) }
     ensures chunks { IfOk result (λ reading. reading.chunks ≡ chunks_in (shown places.now)) }
-    ensures passes { PassesWith (failing (place_checks 0 0 (shown places.now))) result }
+    ensures passes { Passes (failing (place_checks 0 0 (shown places.now))) result }
 {
     let mut reading = Reading {
         rules: Items::new(alloc),
@@ -280,7 +280,7 @@ fn read_all(alloc: Global, places: &[Place<'_>]) -> Result<Reading, Fault>
 #[tactic(auto, using(crate::proofs::Numbered::rules_are))]
 pub fn find_rules(alloc: Global, places: &[Place<'_>]) -> Result<Rules, Fault>
     ensures rules { IfOk result (λ rules. rules ≡ rules_in (shown places.now)) }
-    ensures passes { PassesWith (failing (place_checks 0 0 (shown places.now))) result }
+    ensures passes { Passes (failing (place_checks 0 0 (shown places.now))) result }
 {
     let Reading { rules, chunks } = read_all(alloc, places)?;
     let rules = SectionRules::from_rules(alloc, rules.as_slice())?;

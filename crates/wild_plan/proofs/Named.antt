@@ -1,11 +1,16 @@
 -- Symbols of the script, one place after another.
-use Rattle.std.proofs.Common.{◌≡◌, ◌∙◌, ◌+◌, ◌++◌, List, [], ◌∷◌, ℕ, Option, Ok, false, refl, sym, ap}
+use Rattle.std.proofs.Common.{◌≡◌, ◌∙◌, ◌+◌, ◌++◌, List, [], ◌∷◌, ℕ, Option, Result, Ok, Err, false, refl, sym, ap}
+use Rattle.std.specs.Option.{option_to_list}
+use Rattle.std.proofs.lemmas.List.{append_assoc}
+use Rattle.wild_base.specs.declared.fault.Fault.{Fault}
 use Rattle.wild_expression_tree.specs.declared.tree.Expression.{Expression}
+use Rattle.wild_value_spec.specs.Answer.{◌>>=◌}
 use Rattle.wild_value_spec.specs.Known.{Known}
 use Rattle.wild_value_spec.specs.Setting.{Name, Setting}
 use Rattle.wild_plan_spec.specs.declared.placed.PlacedSymbol.{PlacedSymbol}
 use Rattle.wild_plan_spec.specs.Places.{Place, Task, task_of}
-use Rattle.wild_plan_spec.specs.End.{assigned, placed, listed, task_symbol, symbols}
+use Rattle.wild_plan_spec.specs.End.{assigned, placed, task_symbol, symbols}
+use Rattle.wild_plan.specs.Listed.{behind}
 
 -- a name that is not empty is listed
 pub assigned_named : (setting : Setting) (known : Known) (i : ℕ) (name : Name) (e : Expression) → (name ≡ [] → ⊥) → assigned setting known i name e ≡ placed setting known i name e false
@@ -14,9 +19,18 @@ assigned_named setting known i (b ∷ bs) e h = refl
 
 pub ruleset assigned_by_name = (assigned_named)
 
+behind_more : (found more : List PlacedSymbol) (answer : Result (List PlacedSymbol) Fault) → behind (found ++ more) answer ≡ behind found (answer >>= (λ rest. Ok (more ++ rest)))
+behind_more found more (Ok rest) = ap Ok (append_assoc found more rest)
+behind_more found more (Err f) = refl
+
+pub behind_nothing : (answer : Result (List PlacedSymbol) Fault) → behind [] answer ≡ answer
+behind_nothing (Ok rest) = refl
+behind_nothing (Err f) = refl
+
 -- one place more
 pub symbols_more : (setting : Setting) (known : Known) (i : ℕ) (found : List PlacedSymbol) (p : Place) (ps : List Place) (task : Option Task) (s : Option PlacedSymbol) (next : List PlacedSymbol)
-    → task ≡ task_of p → task_symbol setting known i task ≡ Ok s → next ≡ found ++ listed s → symbols setting known (i + 1) next ps ≡ symbols setting known i found (p ∷ ps)
+    → task ≡ task_of p → task_symbol setting known i task ≡ Ok s → next ≡ found ++ option_to_list s → behind next (symbols setting known (i + 1) ps) ≡ behind found (symbols setting known i (p ∷ ps))
 symbols_more setting known i found p ps task s next a b c =
     let there : task_symbol setting known i (task_of p) ≡ Ok s = ap (task_symbol setting known i) (sym a) ∙ b in
-    rw (c, there) refl
+    let here : symbols setting known i (p ∷ ps) ≡ symbols setting known (i + 1) ps >>= (λ rest. Ok (option_to_list s ++ rest)) = rw there refl in
+    ap (λ (xs : List PlacedSymbol). behind xs (symbols setting known (i + 1) ps)) c ∙ behind_more found (option_to_list s) (symbols setting known (i + 1) ps) ∙ ap (behind found) (sym here)

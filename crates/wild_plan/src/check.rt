@@ -7,7 +7,7 @@ ghost use Rattle.wild_base.specs.declared.fault.Fault.TheVariants.{DuplicateSymb
 ghost use Rattle.wild_plan_spec.specs.Checks.{row_checks, holds_offset, symbol_checks, name_checks, is_plain, is_supported, support_checks, failing};
 ghost use Rattle.wild_plan_spec.specs.Definitions.{entry_names};
 ghost use Rattle.wild_plan.specs.Entries.{shown_entries};
-ghost use Rattle.wild_fates.specs.Passes.{Passes, PassesWith, repeated};
+ghost use Rattle.wild_fates.specs.Passes.{Passes, repeated};
 
 use bitflags::Flags;
 use std::alloc::Global;
@@ -79,7 +79,7 @@ fn push_symbol(alloc: Global, names: &mut Numbering, entry: &Entry<'_>) -> Resul
 /// one.
 pub fn number_entries(alloc: Global, entries: &[Entry<'_>]) -> Result<Numbering, Fault>
     ensures names { IfOk result (λ names. names ≡ entry_names (shown_entries entries.now)) }
-    ensures passes { PassesWith (failing (name_checks DuplicateSymbol [] (entry_names (shown_entries entries.now)))) result }
+    ensures passes { Passes (failing (name_checks DuplicateSymbol [] (entry_names (shown_entries entries.now)))) result }
 {
     let mut names = Numbering::new(alloc);
     for entry in entries {

@@ -1,7 +1,7 @@
 //! What is evaluated once all places are laid out: the symbols of the script, then its ASSERTs.
 
-ghost use Rattle.std.specs.Prelude.{◌≡◌, ◌++◌, [], OnOk};
-ghost use Rattle.std.specs.Option.{option_map};
+ghost use Rattle.std.specs.Prelude.{◌≡◌, ◌++◌, OnOk};
+ghost use Rattle.std.specs.Option.{option_map, option_to_list};
 ghost use Rattle.wild_eval.specs.Setting.{path_of, setting_of, shown_definition};
 ghost use Rattle.wild_eval.specs.Table.{known_of};
 ghost use Rattle.wild_plan_spec.specs.Definitions as definitions;
@@ -139,7 +139,7 @@ impl End<'_> {
 
     /// The symbols of the places, in text order.
     fn symbols(&self, places: &[Place<'_>]) -> Result<Items<PlacedSymbol>, Fault>
-        ensures { Returns result (spec.symbols (setting_of self.now.names.now) (known_of self.now.table.now) 0 [] (shown places.now)) }
+        ensures { Returns result (spec.symbols (setting_of self.now.names.now) (known_of self.now.table.now) 0 (shown places.now)) }
     {
         let mut found = Items::new(self.alloc);
         for (index, place) in places.iter().enumerate() {
@@ -196,7 +196,7 @@ fn push_listed(
     found: &mut Items<PlacedSymbol>,
     symbol: Option<PlacedSymbol>,
 ) -> Result<(), AllocError>
-    ensures { OnOk result (found.new ≡ found.old ++ spec.listed symbol) }
+    ensures { OnOk result (found.new ≡ found.old ++ option_to_list symbol) }
 {
     match symbol {
         Some(symbol) => found.push(symbol),

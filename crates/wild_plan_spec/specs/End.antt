@@ -1,5 +1,6 @@
 -- What is evaluated once all places are laid out, over what is then known: the symbols of the script, then its ASSERTs.
 use Rattle.std.specs.Prelude.{ℕ, ◌+◌, Bool, false, ◌==◌, if◌then◌else◌, List, [], ◌∷◌, ◌++◌, Option, Some, None, Result, Ok}
+use Rattle.std.specs.Option.{option_to_list}
 use Rattle.wild_base.specs.declared.fault.Fault.{Fault}
 use Rattle.wild_expression_tree.specs.declared.tree.AssertCommand.{AssertCommand}
 use Rattle.wild_expression_tree.specs.declared.tree.Expression.{Expression}
@@ -21,10 +22,6 @@ script_symbol name hidden address = record { name = name; address = address; «s
 abbrev pub is_at : ℕ → Option Definition → Bool
 is_at i (Some (OfScript e q)) = q.place == i
 is_at i d = false
-
-abbrev pub listed : Option PlacedSymbol → List PlacedSymbol
-listed None = []
-listed (Some s) = s ∷ []
 
 module _ (setting : Setting) (known : Known) where
   -- ---- symbols
@@ -53,10 +50,10 @@ module _ (setting : Setting) (known : Known) where
   task_symbol i (Some (Check c)) = Ok None
   task_symbol i None = Ok None
 
-  -- these symbols and those of the places, in text order; the first place of the list has the number i
-  abbrev pub symbols : ℕ → List PlacedSymbol → List Place → Result (List PlacedSymbol) Fault
-  symbols i found [] = Ok found
-  symbols i found (p ∷ ps) = task_symbol i (task_of p) >>= (λ s. symbols (i + 1) (found ++ listed s) ps)
+  -- those of the places, in text order; the first place of the list has the number i
+  abbrev pub symbols : ℕ → List Place → Result (List PlacedSymbol) Fault
+  symbols i [] = Ok []
+  symbols i (p ∷ ps) = task_symbol i (task_of p) >>= (λ s. symbols (i + 1) ps >>= (λ found. Ok (option_to_list s ++ found)))
 
   -- ---- conditions
 
@@ -78,4 +75,4 @@ module _ (setting : Setting) (known : Known) where
 
   -- all symbols have values and then all conditions hold: the symbols
   abbrev pub finished : List Place → Result (List PlacedSymbol) Fault
-  finished ps = symbols 0 [] ps >>= (λ found. conditions 0 ps >>= (λ u. Ok found))
+  finished ps = symbols 0 ps >>= (λ found. conditions 0 ps >>= (λ u. Ok found))

@@ -4,6 +4,7 @@ use Rattle.wild_eval.specs.Setting.{setting_of}
 use Rattle.wild_eval.specs.Table.{known_of}
 use Rattle.wild_plan_spec.specs.End.{symbols}
 use Rattle.wild_fates.specs.Shown.{shown, shown_place}
+use Rattle.wild_plan.specs.Listed.{behind}
 use Rattle.wild_plan.proofs.Named.{symbols_more}
 use Rattle.wild_plan.proofs.ends.End.symbols.Goals as goal
 
@@ -15,7 +16,7 @@ loop-index-preserved c =
     let i = c.loop-index.index in
     let found = c.loop-index.found in
     let item = c.index-places-index.result in
-    let left = at_drop_more (λ ps. symbols setting known i found (shown ps)) places i item c.loop-index-test.true in
-    let here = ap (λ p. symbols setting known i found (shown_place p ∷ shown (drop (i + 1) places))) c.index-places-index.is in
+    let left = at_drop_more (λ ps. behind found (symbols setting known i (shown ps))) places i item c.loop-index-test.true in
+    let here = ap (λ p. behind found (symbols setting known i (shown_place p ∷ shown (drop (i + 1) places)))) c.index-places-index.is in
     let moved = symbols_more setting known i found (shown_place item) (shown (drop (i + 1) places)) _ _ _ c.task.ensures c.in_ok-symbol.ensures c.in_ok-push_listed.ensures in
     moved ∙ here ∙ sym left ∙ c.loop-index.invariant
