@@ -41,9 +41,9 @@ abbrev IsPrefix : List PlacedLocation → List PlacedLocation → Type 0
 IsPrefix xs ys = (zs : List PlacedLocation) × (ys ≡ xs ++ zs)
 
 -- the second state knows and lists all that the first one does
-record Grows (first second : State) : Type 0 where
-  known : IsPart first.known second.known
-  locations : IsPrefix first.locations second.locations
+pub record Grows (first second : State) : Type 0 where
+  pub known : IsPart first.known second.known
+  pub locations : IsPrefix first.locations second.locations
 
 grows_not : (s : State) → Grows s s
 grows_not s = record { known = λ x n h. h; locations = ([], sym (append-nil s.locations)) }
@@ -77,7 +77,7 @@ row_grows c st next e =
     let same : record st { cursor = second.0; known = with_entry (Address c.row) st.cursor st.known } ≡ next = cc in
     subst (λ (s : State). Grows st s) same (knows_more st (record st { cursor = second.0; known = with_entry (Address c.row) st.cursor st.known }) (grown_entry (Address c.row) st.cursor st.known) refl)
 
-rows_grow : (cs : List ChunkRow) (st next : State) → rows_placed cs st ≡ Ok next → Grows st next
+pub rows_grow : (cs : List ChunkRow) (st next : State) → rows_placed cs st ≡ Ok next → Grows st next
 rows_grow [] st next e = let same : st ≡ next = cc in subst (λ (s : State). Grows st s) same (grows_not st)
 rows_grow (c ∷ cs) st next e =
     let first = bind_ok (row_placed c st) (λ s. rows_placed cs s) next e in
@@ -116,7 +116,7 @@ module _ (setting : Setting) (order : Chunk → List ChunkRow) where
   closed_grows s None st next e = end_grows s st next e
   closed_grows s (Some other) st next e = absurd (cc)
 
-  alone_grows : (s : ℕ) (st next : State) → ended_alone setting s st ≡ Ok next → Grows st next
+  pub alone_grows : (s : ℕ) (st next : State) → ended_alone setting s st ≡ Ok next → Grows st next
   unfolding ended_alone
   alone_grows s st next e = closed_grows s _ st next e
 
@@ -177,7 +177,7 @@ module _ (setting : Setting) (order : Chunk → List ChunkRow) where
         let z : i + suc n ≡ i + n + 1 = omega arith in
         rw z (grows_on (s.before i) (s.before (i + n)) (s.before (i + n + 1)) (later n i (omega (arith, low))) (line_grows (i + n) found.0 (s.before (i + n)) (s.before (i + n + 1)) goes))
 
-    to_end : (i : ℕ) → i ≤ k → Grows (s.before i) state
+    pub to_end : (i : ℕ) → i ≤ k → Grows (s.before i) state
     to_end i low =
         let z : i + (k - i) ≡ k = omega (arith, low) in
         let there : Grows (s.before i) (s.before k) = subst (λ (n : ℕ). Grows (s.before i) (s.before n)) z (later (k - i) i (omega (arith, low))) in

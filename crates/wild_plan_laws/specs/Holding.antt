@@ -27,3 +27,7 @@ pub record IsPlaceOf (row : InputRow) (address : ℕ) : Type 0 where
 -- each row whose address is known has such a place
 abbrev pub StandInPlace : List InputRow → Known → Type 0
 StandInPlace rows known = (r : ℕ) (row : InputRow) (a : ℕ) → slice_get rows r ≡ Some row → known (Address r) ≡ Some a → IsPlaceOf row a
+
+-- the address of row r is known
+abbrev pub HasAddress : Known → ℕ → Type 0
+HasAddress known r = (a : ℕ) × (known (Address r) ≡ Some a)

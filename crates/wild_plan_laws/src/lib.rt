@@ -3,4 +3,6 @@
 
 mod laws;
 
-pub use laws::{locations_hold, rows_stand_in_place};
+pub use laws::{
+    kept_rows_have_addresses, locations_hold, rows_stand_in_place, symbols_stand_in_rows,
+};

@@ -1,0 +1,64 @@
+-- The offset of a symbol is not above the size of its row, so the address of the symbol is below 2 ^ 64.
+use Rattle.std.proofs.Common.{◌≡◌, ℕ, zero, suc, ◌+◌, ◌^◌, ◌<◌, ◌≤◌, Bool, true, false, not, cond, List, [], ◌∷◌, ◌++◌, Option, Some, None, refl, subst, arith}
+use Rattle.std.specs.Prelude.{slice_get}
+use Rattle.std.specs.List.{find}
+use Rattle.std.specs.Option.{option_map}
+use Rattle.std.proofs.lemmas.Bool.{leb-true}
+use Rattle.wild_script.specs.Tree.{Bytes}
+use Rattle.wild_script.specs.declared.tree.LinkerScript.{LinkerScript}
+use Rattle.wild_value_spec.specs.Known.{Address}
+use Rattle.wild_plan_spec.specs.declared.row.InputRow.{InputRow}
+use Rattle.wild_plan_spec.specs.declared.row.InputTable.{InputTable}
+use Rattle.wild_plan_spec.specs.declared.row.SymbolRow.{SymbolRow}
+use Rattle.wild_plan_spec.specs.Checks.{Check, row_checks, holds_offset, symbol_checks, checks, failing}
+use Rattle.wild_plan_spec.specs.Fit.{IsLaid}
+use Rattle.wild_plan_spec.specs.Line.{State}
+use Rattle.wild_plan_laws.proofs.Standing.{rows_stand_in_place}
+
+-- ---- checks
+
+abbrev AllHold : List Check → Type 0
+AllHold [] = Unit {0}
+AllHold (c ∷ cs) = (c.holds ≡ true) × AllHold cs
+
+-- where none fails, the first check holds and none of the others fails
+none_by : (b : Bool) (c : Check) (o : Option Check) → option_map (λ (d : Check). d.fault) (cond (not b) (Some c) o) ≡ None → (b ≡ true) × (option_map (λ (d : Check). d.fault) o ≡ None)
+none_by true c o e = (refl, e)
+none_by false c o e = absurd (cc)
+
+all_hold : (cs : List Check) → failing cs ≡ None → AllHold cs
+all_hold [] e = tt
+all_hold (c ∷ cs) e = let both = none_by c.holds c (find (λ (d : Check). not d.holds) cs) e in (both.0, all_hold cs both.1)
+
+first_hold : (xs ys : List Check) → AllHold (xs ++ ys) → AllHold xs
+first_hold [] ys all = tt
+first_hold (x ∷ xs) ys all = (all.0, first_hold xs ys all.1)
+
+others_hold : (xs ys : List Check) → AllHold (xs ++ ys) → AllHold ys
+others_hold [] ys all = all
+others_hold (x ∷ xs) ys all = others_hold xs ys all.1
+
+-- ---- symbols
+
+symbol_holds : (rows : List InputRow) (n : ℕ) (ss : List SymbolRow) (i : ℕ) (s : SymbolRow) → AllHold (symbol_checks rows n ss) → slice_get ss i ≡ Some s → holds_offset (slice_get rows s.row) s.offset ≡ true
+symbol_holds rows n [] i s all e = absurd (cc)
+symbol_holds rows n (first ∷ ss) zero s all e = let same : first ≡ s = cc in subst (λ (w : SymbolRow). holds_offset (slice_get rows w.row) w.offset ≡ true) same all.0
+symbol_holds rows n (first ∷ ss) (suc i) s all e = symbol_holds rows (n + 1) ss i s all.1 e
+
+within_row : (o : Option InputRow) (offset : ℕ) → holds_offset o offset ≡ true → (row : InputRow) × (o ≡ Some row) × (offset ≤ row.size)
+within_row None offset e = absurd (cc)
+within_row (Some row) offset e = (row, refl, leb-true offset row.size e)
+
+second_hold : (xs ys us vs ws : List Check) → AllHold (xs ++ ys ++ us ++ vs ++ ws) → AllHold ys
+second_hold xs ys us vs ws all = others_hold xs ys (first_hold (xs ++ ys) us (first_hold (xs ++ ys ++ us) vs (first_hold (xs ++ ys ++ us ++ vs) ws all)))
+
+symbols_hold : (t : LinkerScript) (inputs : InputTable) → failing (checks t inputs) ≡ None → AllHold (symbol_checks inputs.rows 0 inputs.symbols)
+symbols_hold t inputs sound = second_hold (row_checks 0 inputs.rows) (symbol_checks inputs.rows 0 inputs.symbols) _ _ _ (all_hold (checks t inputs) sound)
+
+pub symbols_stand_in_rows : (script : Bytes) (t : LinkerScript) (inputs : InputTable) (state : State) → IsLaid script t inputs state
+    → (i : ℕ) (s : SymbolRow) → slice_get inputs.symbols i ≡ Some s → (a : ℕ) → state.known (Address s.row) ≡ Some a → a + s.offset < 2 ^ 64
+symbols_stand_in_rows script t inputs state f i s there a known =
+    let found = within_row (slice_get inputs.rows s.row) s.offset (symbol_holds inputs.rows 0 inputs.symbols i s (symbols_hold t inputs f.sound) there) in
+    let row_ends = (rows_stand_in_place script t inputs state f s.row found.0 a found.1 known).ends in
+    let small = found.2 in
+    omega (arith, row_ends, small)
