@@ -104,7 +104,7 @@ position_within : {X : Type 0} (p : X → Bool) (n : ℕ) (xs : List X) (s : ℕ
 position_within p n [] s e = absurd (cc)
 position_within p n (x ∷ xs) s e = position_by (p x) n (length xs) s (position_from p (n + 1) xs) (position_within p (n + 1) xs s) e
 
-names_length : (xs : List Section) → length (names_of xs) ≡ length xs
+pub names_length : (xs : List Section) → length (names_of xs) ≡ length xs
 names_length [] = refl
 names_length (x ∷ xs) = ap suc (names_length xs)
 

@@ -33,7 +33,7 @@ or_kept : (o m : Option ℕ) (n : ℕ) → o ≡ Some n → or_else o m ≡ Some
 or_kept (Some k) m n h = h
 or_kept None m n h = absurd (cc)
 
-grown_entry : (x : Entry) (n : ℕ) (known : Known) → IsPart known (with_entry x n known)
+pub grown_entry : (x : Entry) (n : ℕ) (known : Known) → IsPart known (with_entry x n known)
 unfolding with_entry
 grown_entry x n known y m h = or_kept (known y) _ m h
 

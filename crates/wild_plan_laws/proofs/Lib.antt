@@ -1,6 +1,11 @@
 pub mod Growing
-pub mod Standing
+pub mod Lines
 pub mod Having
 pub mod Found
+pub mod Walked
+pub mod Chunked
+pub mod Standing
 pub mod Kept
 pub mod Offsets
+pub mod Laid
+pub mod Apart

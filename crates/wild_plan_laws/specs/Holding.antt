@@ -1,9 +1,9 @@
 -- What holds of a finished layout.
-use Rattle.std.specs.Prelude.{◌≡◌, ℕ, ◌+◌, ◌%◌, ◌^◌, ◌<◌, List, [], Some, Ok, slice_get}
+use Rattle.std.specs.Prelude.{◌≡◌, ℕ, ◌+◌, ◌%◌, ◌^◌, ◌<◌, ◌≤◌, List, [], Some, Ok, slice_get}
 use Rattle.wild_expression_tree.specs.declared.tree.Expression.{Expression}
 use Rattle.wild_script.specs.Tree.{Bytes}
 use Rattle.wild_script.specs.declared.tree.LinkerScript.{LinkerScript}
-use Rattle.wild_value_spec.specs.Known.{Known, Address}
+use Rattle.wild_value_spec.specs.Known.{Known, Start, Load, End, Address}
 use Rattle.wild_value_spec.specs.Value.{full}
 use Rattle.wild_plan_spec.specs.declared.row.InputRow.{InputRow}
 use Rattle.wild_plan_spec.specs.declared.row.InputTable.{InputTable}
@@ -19,6 +19,8 @@ pub record Holds (script : Bytes) (t : LinkerScript) (inputs : InputTable) (stat
   pub index : ℕ
   pub listed : slice_get state.locations index ≡ Some (record { statement = i; address = address })
 
+-- ---- rows
+
 -- it is a multiple of the row's alignment, and the row ends below 2 ^ 64
 pub record IsPlaceOf (row : InputRow) (address : ℕ) : Type 0 where
   pub aligned : address % 2 ^ alignment_of row ≡ 0
@@ -31,3 +33,45 @@ StandInPlace rows known = (r : ℕ) (row : InputRow) (a : ℕ) → slice_get row
 -- the address of row r is known
 abbrev pub HasAddress : Known → ℕ → Type 0
 HasAddress known r = (a : ℕ) × (known (Address r) ≡ Some a)
+
+-- the address x is one of row r
+pub record RowHolds (rows : List InputRow) (known : Known) (r x : ℕ) : Type 0 where
+  pub row : InputRow
+  pub there : slice_get rows r ≡ Some row
+  pub address : ℕ
+  pub placed : known (Address r) ≡ Some address
+  pub from : address ≤ x
+  pub to : x < address + row.size
+
+-- ---- sections
+
+-- section s starts at the one address and ends at the other
+pub record Spans (known : Known) (s start end : ℕ) : Type 0 where
+  pub starts : known (Start s) ≡ Some start
+  pub ends : known (End s) ≡ Some end
+
+-- section s starts at a multiple of 2 ^ alignment, is loaded there, and ends no lower and below 2 ^ 64
+pub record SectionStands (known : Known) (s alignment : ℕ) : Type 0 where
+  pub start : ℕ
+  pub end : ℕ
+  pub spans : Spans known s start end
+  pub aligned : start % 2 ^ alignment ≡ 0
+  pub loaded : known (Load s) ≡ Some start
+  pub forward : start ≤ end
+  pub below : end < 2 ^ 64
+
+-- the address x is one of section s
+pub record SectionHolds (known : Known) (s x : ℕ) : Type 0 where
+  pub start : ℕ
+  pub end : ℕ
+  pub spans : Spans known s start end
+  pub from : start ≤ x
+  pub to : x < end
+
+-- what stands at an address and has this size lies in section s
+pub record LiesIn (known : Known) (s address size : ℕ) : Type 0 where
+  pub start : ℕ
+  pub end : ℕ
+  pub spans : Spans known s start end
+  pub from : start ≤ address
+  pub to : address + size ≤ end
