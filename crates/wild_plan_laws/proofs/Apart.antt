@@ -64,7 +64,7 @@ module _ (script : Bytes) (t : LinkerScript) (inputs : InputTable) (state : Stat
       subst (λ (s : ℕ). LiesIn state.known s a row.size) own (record { start = found.start; end = found.end; spans = found.spans; from = lies.from; to = omega (arith, to, size) })
 
   -- a section that starts is one of those that stand
-  starts_below : (s n : ℕ) → state.known (Start s) ≡ Some n → s < length (section_names t inputs)
+  pub starts_below : (s n : ℕ) → state.known (Start s) ≡ Some n → s < length (section_names t inputs)
   starts_below s n e = ⊎_elim (λ lt. lt) (λ le. absurd (not_both (state.known (Start s)) n (all_behind.fresh s le).starts e)) (cases_lt s (length (section_names t inputs)))
 
   pub sections_do_not_overlap : (s u x : ℕ) → SectionHolds state.known s x → SectionHolds state.known u x → s ≡ u

@@ -43,7 +43,7 @@ end_here : (s n : ℕ) (known : Known) → known (End s) ≡ None → with_entry
 unfolding with_entry
 end_here s n known e = first_entry (s == s) n (known (End s)) e (eq-eqb s s refl)
 
-known_number : (known : Known) (x : Entry) (n : ℕ) → known x ≡ Some n → number_at known x ≡ n
+pub known_number : (known : Known) (x : Entry) (n : ℕ) → known x ≡ Some n → number_at known x ≡ n
 known_number known x n e = rw e refl
 
 -- the addresses of rows are those known before

@@ -9,3 +9,4 @@ pub mod Kept
 pub mod Offsets
 pub mod Laid
 pub mod Apart
+pub mod Listed

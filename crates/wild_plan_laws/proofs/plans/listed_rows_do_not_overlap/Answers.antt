@@ -1,0 +1,5 @@
+use Rattle.wild_plan_laws.proofs.Listed.{listed_rows_do_not_overlap}
+use Rattle.wild_plan_laws.proofs.plans.listed_rows_do_not_overlap.Goals as goal
+
+pub returns : goal.returns
+returns c = listed_rows_do_not_overlap

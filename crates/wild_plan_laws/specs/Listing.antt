@@ -1,0 +1,32 @@
+-- What holds of what a plan lists.
+use Rattle.std.specs.Prelude.{◌≡◌, ℕ, ◌+◌, ◌%◌, ◌^◌, ◌<◌, ◌≤◌, Some, slice_get}
+use Rattle.wild_plan_spec.specs.declared.placed.PlacedInput.TheVariants.{Placed}
+use Rattle.wild_plan_spec.specs.declared.placed.PlacedSection.{PlacedSection}
+use Rattle.wild_plan_spec.specs.declared.row.InputRow.{InputRow}
+use Rattle.wild_plan_spec.specs.declared.row.InputTable.{InputTable}
+use Rattle.wild_plan_spec.specs.Chunks.{alignment_of}
+use Rattle.wild_plan_spec.specs.Layout.{Layout}
+
+-- it starts at a multiple of its alignment, is loaded where it starts, and ends below 2 ^ 64
+pub record SectionStands (place : PlacedSection) : Type 0 where
+  pub aligned : place.start % 2 ^ place.alignment ≡ 0
+  pub loaded : place.load ≡ place.start
+  pub below : place.start + place.size < 2 ^ 64
+
+-- what starts at one address and has this size holds the address x
+abbrev pub Holds : ℕ → ℕ → ℕ → Type 0
+Holds start size x = (start ≤ x) × (x < start + size)
+
+-- row r of the table is listed at an address of section s
+pub record Lists (inputs : InputTable) (plan : Layout) (r s address : ℕ) (row : InputRow) : Type 0 where
+  pub there : slice_get inputs.rows r ≡ Some row
+  pub chunk : ℕ
+  pub listed : slice_get plan.placements r ≡ Some (Placed s chunk address)
+
+-- the address is a multiple of the row's alignment, and the row lies in section s, which is listed
+pub record RowStands (plan : Layout) (s address : ℕ) (row : InputRow) : Type 0 where
+  pub aligned : address % 2 ^ alignment_of row ≡ 0
+  pub place : PlacedSection
+  pub there : slice_get plan.sections s ≡ Some place
+  pub from : place.start ≤ address
+  pub to : address + row.size ≤ place.start + place.size

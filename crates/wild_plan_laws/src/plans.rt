@@ -1,0 +1,37 @@
+//! Laws about what a plan lists: its sections and its rows.
+
+ghost use Rattle.std.specs.Prelude.{◌≡◌, ℕ, Some, slice_get};
+ghost use Rattle.wild_plan_laws.specs.Listing.{Holds, Lists, RowStands, SectionStands};
+ghost use Rattle.wild_plan_spec.specs.declared.placed.PlacedSection.{PlacedSection};
+ghost use Rattle.wild_plan_spec.specs.declared.row.InputRow.{InputRow};
+ghost use Rattle.wild_plan_spec.specs.declared.row.InputTable.{InputTable};
+ghost use Rattle.wild_plan_spec.specs.Fit.{IsPlan};
+ghost use Rattle.wild_plan_spec.specs.Layout.{Layout};
+ghost use Rattle.wild_script.specs.Tree.{Bytes};
+
+/// Each section of a plan that fits starts at a multiple of its alignment, is loaded where it starts, and ends below 2 ^ 64.
+pub fn listed_sections_stand()
+    ensures { (script : Bytes) (inputs : InputTable) (plan : Layout) → IsPlan script inputs plan
+        → (s : ℕ) (place : PlacedSection) → slice_get plan.sections s ≡ Some place → SectionStands place }
+{}
+
+/// Each row that a plan that fits lists in a section lies in that section, which is listed too, at a multiple of its
+/// alignment.
+pub fn listed_rows_stand()
+    ensures { (script : Bytes) (inputs : InputTable) (plan : Layout) → IsPlan script inputs plan
+        → (r s address : ℕ) (row : InputRow) → Lists inputs plan r s address row → RowStands plan s address row }
+{}
+
+/// No address is one of two sections of a plan that fits.
+pub fn listed_sections_do_not_overlap()
+    ensures { (script : Bytes) (inputs : InputTable) (plan : Layout) → IsPlan script inputs plan
+        → (s u : ℕ) (one other : PlacedSection) → slice_get plan.sections s ≡ Some one → slice_get plan.sections u ≡ Some other
+        → (x : ℕ) → Holds one.start one.size x → Holds other.start other.size x → s ≡ u }
+{}
+
+/// No address is one of two rows of a plan that fits.
+pub fn listed_rows_do_not_overlap()
+    ensures { (script : Bytes) (inputs : InputTable) (plan : Layout) → IsPlan script inputs plan
+        → (p r s u a b : ℕ) (one other : InputRow) → Lists inputs plan p s a one → Lists inputs plan r u b other
+        → (x : ℕ) → Holds a one.size x → Holds b other.size x → p ≡ r }
+{}
