@@ -1,27 +1,34 @@
 -- What a plan lists is what is known of the layout, so that it stands as that does.
-use Rattle.std.proofs.Common.{◌≡◌, ◌∙◌, ℕ, zero, suc, ◌+◌, ◌-◌, ◌%◌, ◌^◌, ◌<◌, ◌≤◌, List, [], ◌∷◌, length, Option, Some, None, refl, sym, ap, subst, ⊎_elim, arith}
+use Rattle.std.proofs.Common.{◌≡◌, ◌∙◌, ℕ, zero, suc, ◌+◌, ◌-◌, ◌%◌, ◌^◌, ◌<◌, ◌≤◌, List, [], ◌∷◌, ◌++◌, length, false, Option, Some, None, refl, sym, ap, subst, inl, ⊎_elim, arith}
 use Rattle.std.specs.Prelude.{slice_get}
 use Rattle.std.proofs.lemmas.Option.{slice_get_cases}
+use Rattle.std.proofs.Math.Nat.{mod-eq_of_lt}
 use Rattle.wild_script.specs.Tree.{Bytes}
 use Rattle.wild_script.specs.declared.tree.LinkerScript.{LinkerScript}
 use Rattle.wild_value_spec.specs.Known.{Known, Start, Load, End, Address, number_at}
+use Rattle.wild_plan_spec.specs.declared.chunk.Chunk.{Chunk}
 use Rattle.wild_plan_spec.specs.declared.chunk.Kept.{Kept}
 use Rattle.wild_plan_spec.specs.declared.placed.PlacedInput.{PlacedInput}
 use Rattle.wild_plan_spec.specs.declared.placed.PlacedInput.TheVariants.{Placed}
 use Rattle.wild_plan_spec.specs.declared.placed.PlacedSection.{PlacedSection}
+use Rattle.wild_plan_spec.specs.declared.placed.PlacedSymbol.{PlacedSymbol}
 use Rattle.wild_plan_spec.specs.declared.row.InputRow.{InputRow}
 use Rattle.wild_plan_spec.specs.declared.row.InputTable.{InputTable}
+use Rattle.wild_plan_spec.specs.declared.row.SymbolRow.{SymbolRow}
 use Rattle.wild_plan_spec.specs.Chunks.{section_rows}
+use Rattle.wild_plan_spec.specs.Definitions.{row_chunk, symbol_chunk}
 use Rattle.wild_plan_spec.specs.Fates.{fates_of, section_names}
 use Rattle.wild_plan_spec.specs.Fit.{IsLaid, IsPlan}
-use Rattle.wild_plan_spec.specs.Layout.{Layout, placed_section, placed_sections, placed_input, placed_inputs}
+use Rattle.wild_plan_spec.specs.Layout.{Layout, placed_section, placed_sections, placed_input, placed_inputs, table_symbol, table_symbols}
 use Rattle.wild_plan_spec.specs.Line.{State}
 use Rattle.wild_plan_spec.specs.Names.{Name}
 use Rattle.wild_plan_laws.specs.Holding as holding
-use Rattle.wild_plan_laws.specs.Listing.{Holds, Lists, RowStands, SectionStands}
+use Rattle.wild_plan_laws.specs.Listing.{Holds, Lists, RowStands, SectionStands, SymbolStands}
 use Rattle.wild_plan_laws.proofs.Apart.{sections_stand, rows_lie_in_sections, starts_below, sections_do_not_overlap, rows_do_not_overlap}
+use Rattle.wild_plan_laws.proofs.Having.{Has, has_before, has_behind, has_there}
 use Rattle.wild_plan_laws.proofs.Kept.{kept_rows_have_addresses}
 use Rattle.wild_plan_laws.proofs.Laid.{known_number}
+use Rattle.wild_plan_laws.proofs.Offsets.{symbols_stand_in_rows}
 use Rattle.wild_plan_laws.proofs.Standing.{rows_stand_in_place}
 
 -- ---- lists
@@ -68,6 +75,23 @@ input_placed known n (k ∷ fates) (suc i) s chunk address e =
     let found = input_placed known (n + 1) fates i s chunk address e in
     let z : n + suc i ≡ n + 1 + i = omega arith in
     record { kept = found.kept; fate = found.fate; own = found.own; number = ap (λ (m : ℕ). number_at known (Address m)) z ∙ found.number }
+
+-- ---- symbols of the table
+
+module _ (known : Known) (fates : List (Option Kept)) where
+  abbrev IsSymbol : SymbolRow → ℕ → PlacedSymbol → Type 0
+  IsSymbol symbol s placed = placed ≡ record { name = symbol.name; address = (number_at known (Address symbol.row) + symbol.offset) % 2 ^ 64; «section» = Some s; hidden = false }
+
+  symbol_listed : (symbols : List SymbolRow) (i : ℕ) (symbol : SymbolRow) (k : Kept) → slice_get symbols i ≡ Some symbol → slice_get fates symbol.row ≡ Some (Some k) → Has (IsSymbol symbol k.chunk.«section») (table_symbols known fates symbols)
+  symbol_listed [] i symbol k there e = absurd (cc)
+  symbol_listed (first ∷ symbols) zero symbol k there e =
+      let same : symbol ≡ first = cc in
+      let chunk : symbol_chunk fates first ≡ Some k.chunk = ap (λ (s : SymbolRow). symbol_chunk fates s) (sym same) ∙ ap row_chunk e in
+      has_before (IsSymbol symbol k.chunk.«section») (table_symbol known first (symbol_chunk fates first)) (table_symbols known fates symbols)
+      (subst (λ (o : Option Chunk). Has (IsSymbol symbol k.chunk.«section») (table_symbol known first o)) (sym chunk)
+      (inl (ap (λ (s : SymbolRow). record { name = s.name; address = (number_at known (Address s.row) + s.offset) % 2 ^ 64; «section» = Some k.chunk.«section»; hidden = false }) (sym same))))
+  symbol_listed (first ∷ symbols) (suc i) symbol k there e =
+      has_behind (IsSymbol symbol k.chunk.«section») (table_symbol known first (symbol_chunk fates first)) (table_symbols known fates symbols) (symbol_listed symbols i symbol k there e)
 
 -- ---- layouts
 
@@ -185,6 +209,20 @@ module _ (script : Bytes) (t : LinkerScript) (inputs : InputTable) (state : Stat
   row_holds : (r s address x : ℕ) (row : InputRow) → slice_get inputs.rows r ≡ Some row → IsAt r s address → Holds address row.size x → holding.RowHolds inputs.rows state.known r x
   row_holds r s address x row there at h = record { row = row; there = there; address = address; placed = at.placed; from = h.0; to = h.1 }
 
+  -- ---- symbols
+
+  -- a symbol of a row that is listed is listed with their sum
+  symbol_at : (found : List PlacedSymbol) (i : ℕ) (symbol : SymbolRow) (s address : ℕ) → slice_get inputs.symbols i ≡ Some symbol → IsAt symbol.row s address
+      → Has (λ (placed : PlacedSymbol). placed ≡ record { name = symbol.name; address = address + symbol.offset; «section» = Some s; hidden = false }) (table_symbols state.known fates inputs.symbols ++ found)
+  symbol_at found i symbol s address there at =
+      let fits = symbols_stand_in_rows script t inputs state f i symbol there address at.placed in
+      let number = known_number state.known (Address symbol.row) address at.placed in
+      let sum : (number_at state.known (Address symbol.row) + symbol.offset) % 2 ^ 64 ≡ address + symbol.offset = ap (λ (n : ℕ). (n + symbol.offset) % 2 ^ 64) number ∙ mod-eq_of_lt fits in
+      has_before _ (table_symbols state.known fates inputs.symbols) found
+      (subst (λ (placed : PlacedSymbol). Has (λ (p : PlacedSymbol). p ≡ placed) (table_symbols state.known fates inputs.symbols))
+      (ap (λ (n : ℕ). record { name = symbol.name; address = n; «section» = Some at.kept.chunk.«section»; hidden = false }) sum ∙ ap (λ (n : ℕ). record { name = symbol.name; address = address + symbol.offset; «section» = Some n; hidden = false }) at.own)
+      (symbol_listed state.known fates inputs.symbols i symbol at.kept there at.fate))
+
 -- ---- plans
 
 module _ (script : Bytes) (inputs : InputTable) (plan : Layout) (f : IsPlan script inputs plan) where
@@ -227,3 +265,10 @@ module _ (script : Bytes) (inputs : InputTable) (plan : Layout) (f : IsPlan scri
       rows_do_not_overlap script f.script_tree inputs f.fits.state laid p r x
       (row_holds script f.script_tree inputs f.fits.state laid p s a x one l.there (row_there p s a one l) h)
       (row_holds script f.script_tree inputs f.fits.state laid r u b x other m.there (row_there r u b other m) g)
+
+  pub listed_symbols_stand : (i : ℕ) (symbol : SymbolRow) → slice_get inputs.symbols i ≡ Some symbol → (s address : ℕ) (row : InputRow) → Lists inputs plan symbol.row s address row → SymbolStands plan s address symbol
+  listed_symbols_stand i symbol there s address row l =
+      let listed = has_there _ plan.symbols (subst (λ (ps : List PlacedSymbol). Has (λ (placed : PlacedSymbol). placed ≡ record { name = symbol.name; address = address + symbol.offset; «section» = Some s; hidden = false }) ps)
+      (sym (ap (λ (x : Layout). x.symbols) f.fits.listed))
+      (symbol_at script f.script_tree inputs f.fits.state laid f.fits.found i symbol s address there (row_there symbol.row s address row l))) in
+      record { index = listed.0; there = listed.2 ∙ ap Some listed.3 }

@@ -1,9 +1,10 @@
 -- What holds of what a plan lists.
-use Rattle.std.specs.Prelude.{◌≡◌, ℕ, ◌+◌, ◌%◌, ◌^◌, ◌<◌, ◌≤◌, Some, slice_get}
+use Rattle.std.specs.Prelude.{◌≡◌, ℕ, ◌+◌, ◌%◌, ◌^◌, ◌<◌, ◌≤◌, false, Some, slice_get}
 use Rattle.wild_plan_spec.specs.declared.placed.PlacedInput.TheVariants.{Placed}
 use Rattle.wild_plan_spec.specs.declared.placed.PlacedSection.{PlacedSection}
 use Rattle.wild_plan_spec.specs.declared.row.InputRow.{InputRow}
 use Rattle.wild_plan_spec.specs.declared.row.InputTable.{InputTable}
+use Rattle.wild_plan_spec.specs.declared.row.SymbolRow.{SymbolRow}
 use Rattle.wild_plan_spec.specs.Chunks.{alignment_of}
 use Rattle.wild_plan_spec.specs.Layout.{Layout}
 
@@ -30,3 +31,8 @@ pub record RowStands (plan : Layout) (s address : ℕ) (row : InputRow) : Type 0
   pub there : slice_get plan.sections s ≡ Some place
   pub from : place.start ≤ address
   pub to : address + row.size ≤ place.start + place.size
+
+-- the symbol of the table is listed, where its row is listed at this address of section s
+pub record SymbolStands (plan : Layout) (s address : ℕ) (symbol : SymbolRow) : Type 0 where
+  pub index : ℕ
+  pub there : slice_get plan.symbols index ≡ Some (record { name = symbol.name; address = address + symbol.offset; «section» = Some s; hidden = false })

@@ -10,5 +10,5 @@ pub use laws::{
 };
 pub use plans::{
     listed_rows_do_not_overlap, listed_rows_stand, listed_sections_do_not_overlap,
-    listed_sections_stand,
+    listed_sections_stand, listed_symbols_stand,
 };

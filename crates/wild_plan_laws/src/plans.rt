@@ -1,10 +1,11 @@
-//! Laws about what a plan lists: its sections and its rows.
+//! Laws about what a plan lists: its sections, its rows and the symbols of the table.
 
 ghost use Rattle.std.specs.Prelude.{◌≡◌, ℕ, Some, slice_get};
-ghost use Rattle.wild_plan_laws.specs.Listing.{Holds, Lists, RowStands, SectionStands};
+ghost use Rattle.wild_plan_laws.specs.Listing.{Holds, Lists, RowStands, SectionStands, SymbolStands};
 ghost use Rattle.wild_plan_spec.specs.declared.placed.PlacedSection.{PlacedSection};
 ghost use Rattle.wild_plan_spec.specs.declared.row.InputRow.{InputRow};
 ghost use Rattle.wild_plan_spec.specs.declared.row.InputTable.{InputTable};
+ghost use Rattle.wild_plan_spec.specs.declared.row.SymbolRow.{SymbolRow};
 ghost use Rattle.wild_plan_spec.specs.Fit.{IsPlan};
 ghost use Rattle.wild_plan_spec.specs.Layout.{Layout};
 ghost use Rattle.wild_script.specs.Tree.{Bytes};
@@ -20,6 +21,14 @@ pub fn listed_sections_stand()
 pub fn listed_rows_stand()
     ensures { (script : Bytes) (inputs : InputTable) (plan : Layout) → IsPlan script inputs plan
         → (r s address : ℕ) (row : InputRow) → Lists inputs plan r s address row → RowStands plan s address row }
+{}
+
+/// Each symbol of the table, whose row a plan that fits lists, is listed with the address of the row and its offset as a
+/// sum, and with the section of the row.
+pub fn listed_symbols_stand()
+    ensures { (script : Bytes) (inputs : InputTable) (plan : Layout) → IsPlan script inputs plan
+        → (i : ℕ) (symbol : SymbolRow) → slice_get inputs.symbols i ≡ Some symbol
+        → (s address : ℕ) (row : InputRow) → Lists inputs plan symbol.row s address row → SymbolStands plan s address symbol }
 {}
 
 /// No address is one of two sections of a plan that fits.
