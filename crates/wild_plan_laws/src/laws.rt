@@ -1,4 +1,4 @@
-//! Laws about plans.
+//! Laws about layouts: what holds where all places are laid out.
 
 ghost use Rattle.std.specs.Prelude.{◌≡◌, ℕ, ◌+◌, ◌^◌, ◌<◌, Some, slice_get};
 ghost use Rattle.wild_expression_tree.specs.declared.tree.Expression.{Expression};
