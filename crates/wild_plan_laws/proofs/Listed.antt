@@ -3,6 +3,7 @@ use Rattle.std.proofs.Common.{◌≡◌, ◌∙◌, ℕ, zero, suc, ◌+◌, ◌
 use Rattle.std.specs.Prelude.{slice_get}
 use Rattle.std.proofs.lemmas.Option.{slice_get_cases}
 use Rattle.std.proofs.Math.Nat.{mod-eq_of_lt}
+use Rattle.wild_expression_tree.specs.declared.tree.Expression.{Expression}
 use Rattle.wild_script.specs.Tree.{Bytes}
 use Rattle.wild_script.specs.declared.tree.LinkerScript.{LinkerScript}
 use Rattle.wild_value_spec.specs.Known.{Known, Start, Load, End, Address, number_at}
@@ -22,9 +23,12 @@ use Rattle.wild_plan_spec.specs.Fit.{IsLaid, IsPlan}
 use Rattle.wild_plan_spec.specs.Layout.{Layout, placed_section, placed_sections, placed_input, placed_inputs, table_symbol, table_symbols}
 use Rattle.wild_plan_spec.specs.Line.{State}
 use Rattle.wild_plan_spec.specs.Names.{Name}
+use Rattle.wild_plan_spec.specs.Orphans.{places_of}
+use Rattle.wild_plan_spec.specs.Places.{SetLocation}
 use Rattle.wild_plan_laws.specs.Holding as holding
-use Rattle.wild_plan_laws.specs.Listing.{Holds, Lists, RowStands, SectionStands, SymbolStands}
+use Rattle.wild_plan_laws.specs.Listing.{Holds, Lists, LocationHolds, RowStands, SectionStands, SymbolStands}
 use Rattle.wild_plan_laws.proofs.Apart.{sections_stand, rows_lie_in_sections, starts_below, sections_do_not_overlap, rows_do_not_overlap}
+use Rattle.wild_plan_laws.proofs.Growing.{locations_hold}
 use Rattle.wild_plan_laws.proofs.Having.{Has, has_before, has_behind, has_there}
 use Rattle.wild_plan_laws.proofs.Kept.{kept_rows_have_addresses}
 use Rattle.wild_plan_laws.proofs.Laid.{known_number}
@@ -272,3 +276,8 @@ module _ (script : Bytes) (inputs : InputTable) (plan : Layout) (f : IsPlan scri
       (sym (ap (λ (x : Layout). x.symbols) f.fits.listed))
       (symbol_at script f.script_tree inputs f.fits.state laid f.fits.found i symbol s address there (row_there symbol.row s address row l))) in
       record { index = listed.0; there = listed.2 ∙ ap Some listed.3 }
+
+  pub listed_locations_hold : (i : ℕ) (e : Expression) → slice_get (places_of f.script_tree inputs) i ≡ Some (SetLocation e) → LocationHolds script inputs plan f i e
+  listed_locations_hold i e there =
+      let holds = locations_hold script f.script_tree inputs f.fits.state laid i e there in
+      record { address = holds.address; value = holds.value; index = holds.index; there = ap (λ (l : Layout). slice_get l.locations holds.index) f.fits.listed ∙ holds.listed }

@@ -9,6 +9,6 @@ pub use laws::{
     rows_stand_in_place, sections_do_not_overlap, sections_stand, symbols_stand_in_rows,
 };
 pub use plans::{
-    listed_rows_do_not_overlap, listed_rows_stand, listed_sections_do_not_overlap,
-    listed_sections_stand, listed_symbols_stand,
+    listed_locations_hold, listed_rows_do_not_overlap, listed_rows_stand,
+    listed_sections_do_not_overlap, listed_sections_stand, listed_symbols_stand,
 };

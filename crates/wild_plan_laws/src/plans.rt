@@ -1,13 +1,16 @@
-//! Laws about what a plan lists: its sections, its rows and the symbols of the table.
+//! Laws about what a plan lists: its sections, rows, symbols of the table and locations.
 
 ghost use Rattle.std.specs.Prelude.{◌≡◌, ℕ, Some, slice_get};
-ghost use Rattle.wild_plan_laws.specs.Listing.{Holds, Lists, RowStands, SectionStands, SymbolStands};
+ghost use Rattle.wild_expression_tree.specs.declared.tree.Expression.{Expression};
+ghost use Rattle.wild_plan_laws.specs.Listing.{Holds, Lists, LocationHolds, RowStands, SectionStands, SymbolStands};
 ghost use Rattle.wild_plan_spec.specs.declared.placed.PlacedSection.{PlacedSection};
 ghost use Rattle.wild_plan_spec.specs.declared.row.InputRow.{InputRow};
 ghost use Rattle.wild_plan_spec.specs.declared.row.InputTable.{InputTable};
 ghost use Rattle.wild_plan_spec.specs.declared.row.SymbolRow.{SymbolRow};
 ghost use Rattle.wild_plan_spec.specs.Fit.{IsPlan};
 ghost use Rattle.wild_plan_spec.specs.Layout.{Layout};
+ghost use Rattle.wild_plan_spec.specs.Orphans.{places_of};
+ghost use Rattle.wild_plan_spec.specs.Places.{SetLocation};
 ghost use Rattle.wild_script.specs.Tree.{Bytes};
 
 /// Each section of a plan that fits starts at a multiple of its alignment, is loaded where it starts, and ends below 2 ^ 64.
@@ -43,4 +46,11 @@ pub fn listed_rows_do_not_overlap()
     ensures { (script : Bytes) (inputs : InputTable) (plan : Layout) → IsPlan script inputs plan
         → (p r s u a b : ℕ) (one other : InputRow) → Lists inputs plan p s a one → Lists inputs plan r u b other
         → (x : ℕ) → Holds a one.size x → Holds b other.size x → p ≡ r }
+{}
+
+/// Each statement of the location counter in SECTIONS is listed in a plan that fits, with the value that its expression has
+/// over the finished layout.
+pub fn listed_locations_hold()
+    ensures { (script : Bytes) (inputs : InputTable) (plan : Layout) → (f : IsPlan script inputs plan)
+        → (i : ℕ) (e : Expression) → slice_get (places_of f.script_tree inputs) i ≡ Some (SetLocation e) → LocationHolds script inputs plan f i e }
 {}
