@@ -16,9 +16,9 @@ use Rattle.wild_plan_spec.specs.Fit.{IsLaid}
 use Rattle.wild_plan_spec.specs.Line.{State}
 use Rattle.wild_plan_spec.specs.Names.{Name}
 use Rattle.wild_plan_spec.specs.Settings.{alignments_of, setting_of}
-use Rattle.wild_plan_laws.specs.Holding.{LiesIn, RowHolds, SectionHolds, SectionStands}
+use Rattle.wild_plan_laws.specs.Holding.{LiesIn, RowHolds, SectionHolds, LaidSectionStands}
 use Rattle.wild_plan_laws.proofs.Chunked.{chunk_rows}
-use Rattle.wild_plan_laws.proofs.Laid.{GoesTo, Behind, Amid, nothing_behind, behind_alike, opens, chunk_amid, ends, not_both}
+use Rattle.wild_plan_laws.proofs.Laid.{GoesTo, Behind, Amid, nothing_behind, behind_alike, opens_amid, chunk_amid, ends_behind, not_both}
 use Rattle.wild_plan_laws.proofs.Walked.{walked}
 
 -- the first section of the list has the number s
@@ -38,17 +38,17 @@ module _ (script : Bytes) (t : LinkerScript) (inputs : InputTable) (state : Stat
       let setting = setting_of script t inputs in
       walked setting f.order (Behind setting inputs.rows fates) (Amid setting inputs.rows fates)
       (behind_alike setting inputs.rows fates)
-      (opens setting inputs.rows fates)
+      (opens_amid setting inputs.rows fates)
       (λ q st next h e. chunk_amid setting inputs.rows fates q (f.order q) st next (chunk_rows inputs.rows fates q (f.order q) (f.ordered q)) h e)
-      (ends setting inputs.rows fates)
+      (ends_behind setting inputs.rows fates)
       t inputs state f.stands (nothing_behind setting inputs.rows fates)
 
-  pub sections_stand : (s : ℕ) (name : Name) → slice_get (section_names t inputs) s ≡ Some name → SectionStands state.known s (largest_alignment (section_rows s inputs.rows fates))
+  pub sections_stand : (s : ℕ) (name : Name) → slice_get (section_names t inputs) s ≡ Some name → LaidSectionStands state.known s (largest_alignment (section_rows s inputs.rows fates))
   sections_stand s name there =
       let low = slice_get_within (section_names t inputs) s name there in
       let z : 0 + s ≡ s = omega arith in
       let alignment = alignment_at inputs.rows fates 0 (section_names t inputs) s name there ∙ ap (λ (n : ℕ). largest_alignment (section_rows n inputs.rows fates)) z in
-      subst (SectionStands state.known s) alignment (all_behind.stand s low)
+      subst (LaidSectionStands state.known s) alignment (all_behind.stand s low)
 
   pub rows_lie_in_sections : (r : ℕ) (row : InputRow) (k : Kept) → slice_get inputs.rows r ≡ Some row → slice_get fates r ≡ Some (Some k) → (a : ℕ) → state.known (Address r) ≡ Some a → LiesIn state.known k.chunk.«section» a row.size
   rows_lie_in_sections r row k there fate a known =

@@ -25,7 +25,7 @@ use Rattle.wild_plan_spec.specs.Line.{State, up, row_placed, rows_placed, chunk_
 use Rattle.wild_plan_spec.specs.Walk.{Stands}
 use Rattle.wild_plan_spec.specs.Fit.{IsLaid}
 use Rattle.wild_plan_spec.proofs.Standing.{place_at}
-use Rattle.wild_plan_laws.specs.Holding.{Holds}
+use Rattle.wild_plan_laws.specs.Holding.{LaidLocationHolds}
 
 -- ---- what grows
 
@@ -198,7 +198,7 @@ stayed (Ok m) s n e (inr same) = sym same ∙ e
 stayed (Err f) s n e h = absurd (cc)
 
 pub locations_hold : (script : Bytes) (t : LinkerScript) (inputs : InputTable) (state : State) → IsLaid script t inputs state
-    → (i : ℕ) (e : Expression) → slice_get (places_of t inputs) i ≡ Some (SetLocation e) → Holds script t inputs state i e
+    → (i : ℕ) (e : Expression) → slice_get (places_of t inputs) i ≡ Some (SetLocation e) → LaidLocationHolds script t inputs state i e
 locations_hold script t inputs state f i e there =
     let setting = setting_of script t inputs in
     let places = places_of t inputs in

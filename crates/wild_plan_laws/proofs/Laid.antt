@@ -14,7 +14,7 @@ use Rattle.wild_plan_spec.specs.declared.placed.PlacedLocation.{PlacedLocation}
 use Rattle.wild_plan_spec.specs.declared.row.InputRow.{InputRow}
 use Rattle.wild_plan_spec.specs.Chunks.{largest}
 use Rattle.wild_plan_spec.specs.Line.{State, up, row_placed, rows_placed, chunk_placed, opened, shares, lower, sharing, ended, closed_by, ended_alone}
-use Rattle.wild_plan_laws.specs.Holding.{RowHolds, SectionHolds, SectionStands, Spans}
+use Rattle.wild_plan_laws.specs.Holding.{RowHolds, SectionHolds, LaidSectionStands, Spans}
 use Rattle.wild_plan_laws.proofs.Chunked.{IsRow, IsRowOf}
 use Rattle.wild_plan_laws.proofs.Growing.{bind_ok, grown_entry}
 use Rattle.wild_plan_laws.proofs.Lines.{up_multiple, up_reaches, up_fits, sum_is, sum_fits, entry_by}
@@ -61,7 +61,7 @@ pub record IsFresh (known : Known) (s : ℕ) : Type 0 where
 spans_grow : (known more : Known) (s start end : ℕ) → IsPart known more → Spans known s start end → Spans more s start end
 spans_grow known more s start end part h = record { starts = part (Start s) start h.starts; ends = part (End s) end h.ends }
 
-stands_grow : (known more : Known) (s alignment : ℕ) → IsPart known more → SectionStands known s alignment → SectionStands more s alignment
+stands_grow : (known more : Known) (s alignment : ℕ) → IsPart known more → LaidSectionStands known s alignment → LaidSectionStands more s alignment
 stands_grow known more s alignment part h = record {
   start = h.start;
   end = h.end;
@@ -73,7 +73,7 @@ stands_grow known more s alignment part h = record {
 }
 
 -- a section that stands holds the addresses that it held
-held_before : (known more : Known) (s alignment x : ℕ) → IsPart known more → SectionStands known s alignment → SectionHolds more s x → SectionHolds known s x
+held_before : (known more : Known) (s alignment x : ℕ) → IsPart known more → LaidSectionStands known s alignment → SectionHolds more s x → SectionHolds known s x
 held_before known more s alignment x part h holds =
     let start : h.start ≡ holds.start = one_number (more (Start s)) h.start holds.start (part (Start s) h.start h.spans.starts) holds.spans.starts in
     let end : h.end ≡ holds.end = one_number (more (End s)) h.end holds.end (part (End s) h.end h.spans.ends) holds.spans.ends in
@@ -178,7 +178,7 @@ module _ (setting : Setting) (rows : List InputRow) (fates : List (Option Kept))
   SectionsApart n known = (s u x : ℕ) → s < n → u < n → SectionHolds known s x → SectionHolds known u x → s ≡ u
 
   abbrev AllStand : ℕ → Known → Type 0
-  AllStand n known = (s : ℕ) → s < n → SectionStands known s (setting.alignment s)
+  AllStand n known = (s : ℕ) → s < n → LaidSectionStands known s (setting.alignment s)
 
   sections_apart_still : (n : ℕ) (known more : Known) → IsPart known more → AllStand n known → SectionsApart n known → SectionsApart n more
   sections_apart_still n known more part stand h s u x low high one other =
@@ -276,9 +276,9 @@ module _ (setting : Setting) (rows : List InputRow) (fates : List (Option Kept))
           rows_apart = rows_apart_still known started (λ r a e. sym (started_same (Address r) refl refl) ∙ e) h.rows_apart;
         }
 
-  pub opens : (s : ℕ) (st next : State) → Behind s st.known → opened s (setting.alignment s) st ≡ Ok next → Amid s next
+  pub opens_amid : (s : ℕ) (st next : State) → Behind s st.known → opened s (setting.alignment s) st ≡ Ok next → Amid s next
   unfolding opened
-  opens s st next h e =
+  opens_amid s st next h e =
       let first = bind_ok (up st.counter (setting.alignment s)) _ next e in
       let both = first.2 in
       let same : record st { cursor = first.0; known = started s first.0 st.known h } ≡ next = cc in
@@ -436,7 +436,7 @@ module _ (setting : Setting) (rows : List InputRow) (fates : List (Option Kept))
     own_spans : Spans finished s h.start st.cursor
     own_spans = record { starts = finished_part (Start s) h.start h.starts; ends = end_here s st.cursor st.known h.ends }
 
-    own_stands : SectionStands finished s (setting.alignment s)
+    own_stands : LaidSectionStands finished s (setting.alignment s)
     own_stands = record {
       start = h.start;
       end = st.cursor;
@@ -451,7 +451,7 @@ module _ (setting : Setting) (rows : List InputRow) (fates : List (Option Kept))
     finished_stand : AllStand (s + 1) finished
     finished_stand u low = ⊎_elim
         (λ lt. stands_grow st.known finished u (setting.alignment u) finished_part (h.stand u lt))
-        (λ le. let same : s ≡ u = omega (arith, low, le) in subst (λ (m : ℕ). SectionStands finished m (setting.alignment m)) same own_stands)
+        (λ le. let same : s ≡ u = omega (arith, low, le) in subst (λ (m : ℕ). LaidSectionStands finished m (setting.alignment m)) same own_stands)
         (cases_lt u s)
 
     finished_fresh : (u : ℕ) → s + 1 ≤ u → IsFresh finished u
@@ -509,8 +509,8 @@ module _ (setting : Setting) (rows : List InputRow) (fates : List (Option Kept))
       subst (λ (u : State). Behind (s + 1) u.known) same (finished_behind s st h alone)
   closed_behind s (Some other) st next h some e = absurd (cc)
 
-  pub ends : (s : ℕ) (st next : State) → Amid s st → ended_alone setting s st ≡ Ok next → Behind (s + 1) next.known
+  pub ends_behind : (s : ℕ) (st next : State) → Amid s st → ended_alone setting s st ≡ Ok next → Behind (s + 1) next.known
   unfolding ended_alone
-  ends s st next h e =
+  ends_behind s st next h e =
       let start = known_number st.known (Start s) h.start h.starts in
       closed_behind s _ st next h (ap (λ (n : ℕ). sharing st.known n st.cursor s) (sym start)) e

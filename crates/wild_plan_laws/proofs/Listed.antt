@@ -26,7 +26,7 @@ use Rattle.wild_plan_spec.specs.Names.{Name}
 use Rattle.wild_plan_spec.specs.Orphans.{places_of}
 use Rattle.wild_plan_spec.specs.Places.{SetLocation}
 use Rattle.wild_plan_laws.specs.Holding as holding
-use Rattle.wild_plan_laws.specs.Listing.{Holds, Lists, LocationHolds, RowStands, SectionStands, SymbolStands}
+use Rattle.wild_plan_laws.specs.Listing.{Covers, Lists, LocationHolds, RowStands, SectionStands, SymbolStands}
 use Rattle.wild_plan_laws.proofs.Apart.{sections_stand, rows_lie_in_sections, starts_below, sections_do_not_overlap, rows_do_not_overlap}
 use Rattle.wild_plan_laws.proofs.Growing.{locations_hold}
 use Rattle.wild_plan_laws.proofs.Having.{Has, has_before, has_behind, has_there}
@@ -111,7 +111,7 @@ module _ (script : Bytes) (t : LinkerScript) (inputs : InputTable) (state : Stat
 
   -- the section of this number is listed, and it stands where it does
   record IsPlace (s : ℕ) (place : PlacedSection) : Type 0 where
-    stands : holding.SectionStands state.known s place.alignment
+    stands : holding.LaidSectionStands state.known s place.alignment
     start : place.start ≡ stands.start
     load : place.load ≡ stands.start
     size : place.size ≡ stands.end - stands.start
@@ -153,9 +153,9 @@ module _ (script : Bytes) (t : LinkerScript) (inputs : InputTable) (state : Stat
         below = omega (arith, start, size, forward, below);
       }
 
-  -- a listed section holds the addresses that the section holds
-  holds_is : (s : ℕ) (place : PlacedSection) (x : ℕ) → slice_get sections s ≡ Some place → Holds place.start place.size x → holding.SectionHolds state.known s x
-  holds_is s place x there h =
+  -- the addresses that a listed section covers are those that the section holds
+  covered_is : (s : ℕ) (place : PlacedSection) (x : ℕ) → slice_get sections s ≡ Some place → Covers place.start place.size x → holding.SectionHolds state.known s x
+  covered_is s place x there h =
       let is = listed_is s place there in
       let start = is.start in
       let size = is.size in
@@ -164,8 +164,8 @@ module _ (script : Bytes) (t : LinkerScript) (inputs : InputTable) (state : Stat
       let to = h.1 in
       record { start = is.stands.start; end = is.stands.end; spans = is.stands.spans; from = omega (arith, start, from); to = omega (arith, start, size, forward, to) }
 
-  sections_apart : (s u : ℕ) (one other : PlacedSection) → slice_get sections s ≡ Some one → slice_get sections u ≡ Some other → (x : ℕ) → Holds one.start one.size x → Holds other.start other.size x → s ≡ u
-  sections_apart s u one other there here x h g = sections_do_not_overlap script t inputs state f s u x (holds_is s one x there h) (holds_is u other x here g)
+  sections_apart : (s u : ℕ) (one other : PlacedSection) → slice_get sections s ≡ Some one → slice_get sections u ≡ Some other → (x : ℕ) → Covers one.start one.size x → Covers other.start other.size x → s ≡ u
+  sections_apart s u one other there here x h g = sections_do_not_overlap script t inputs state f s u x (covered_is s one x there h) (covered_is u other x here g)
 
   -- ---- rows
 
@@ -209,9 +209,9 @@ module _ (script : Bytes) (t : LinkerScript) (inputs : InputTable) (state : Stat
         to = omega (arith, start, end, from, to);
       }
 
-  -- a row holds the addresses from where it is listed
-  row_holds : (r s address x : ℕ) (row : InputRow) → slice_get inputs.rows r ≡ Some row → IsAt r s address → Holds address row.size x → holding.RowHolds inputs.rows state.known r x
-  row_holds r s address x row there at h = record { row = row; there = there; address = address; placed = at.placed; from = h.0; to = h.1 }
+  -- the addresses that a listed row covers are those that the row holds
+  row_covered : (r s address x : ℕ) (row : InputRow) → slice_get inputs.rows r ≡ Some row → IsAt r s address → Covers address row.size x → holding.RowHolds inputs.rows state.known r x
+  row_covered r s address x row there at h = record { row = row; there = there; address = address; placed = at.placed; from = h.0; to = h.1 }
 
   -- ---- symbols
 
@@ -261,14 +261,14 @@ module _ (script : Bytes) (inputs : InputTable) (plan : Layout) (f : IsPlan scri
         to = lies.to;
       }
 
-  pub listed_sections_do_not_overlap : (s u : ℕ) (one other : PlacedSection) → slice_get plan.sections s ≡ Some one → slice_get plan.sections u ≡ Some other → (x : ℕ) → Holds one.start one.size x → Holds other.start other.size x → s ≡ u
+  pub listed_sections_do_not_overlap : (s u : ℕ) (one other : PlacedSection) → slice_get plan.sections s ≡ Some one → slice_get plan.sections u ≡ Some other → (x : ℕ) → Covers one.start one.size x → Covers other.start other.size x → s ≡ u
   listed_sections_do_not_overlap s u one other there here = sections_apart script f.script_tree inputs f.fits.state laid s u one other (section_there s one there) (section_there u other here)
 
-  pub listed_rows_do_not_overlap : (p r s u a b : ℕ) (one other : InputRow) → Lists inputs plan p s a one → Lists inputs plan r u b other → (x : ℕ) → Holds a one.size x → Holds b other.size x → p ≡ r
+  pub listed_rows_do_not_overlap : (p r s u a b : ℕ) (one other : InputRow) → Lists inputs plan p s a one → Lists inputs plan r u b other → (x : ℕ) → Covers a one.size x → Covers b other.size x → p ≡ r
   listed_rows_do_not_overlap p r s u a b one other l m x h g =
       rows_do_not_overlap script f.script_tree inputs f.fits.state laid p r x
-      (row_holds script f.script_tree inputs f.fits.state laid p s a x one l.there (row_there p s a one l) h)
-      (row_holds script f.script_tree inputs f.fits.state laid r u b x other m.there (row_there r u b other m) g)
+      (row_covered script f.script_tree inputs f.fits.state laid p s a x one l.there (row_there p s a one l) h)
+      (row_covered script f.script_tree inputs f.fits.state laid r u b x other m.there (row_there r u b other m) g)
 
   pub listed_symbols_stand : (i : ℕ) (symbol : SymbolRow) → slice_get inputs.symbols i ≡ Some symbol → (s address : ℕ) (row : InputRow) → Lists inputs plan symbol.row s address row → SymbolStands plan s address symbol
   listed_symbols_stand i symbol there s address row l =

@@ -13,7 +13,7 @@ use Rattle.wild_plan_spec.specs.Line.{State}
 use Rattle.wild_plan_spec.specs.Settings.{setting_of}
 
 -- the expression of place i has a value over what is known at the end, and it is listed with that
-pub record Holds (script : Bytes) (t : LinkerScript) (inputs : InputTable) (state : State) (i : ℕ) (e : Expression) : Type 0 where
+pub record LaidLocationHolds (script : Bytes) (t : LinkerScript) (inputs : InputTable) (state : State) (i : ℕ) (e : Expression) : Type 0 where
   pub address : ℕ
   pub value : full (setting_of script t inputs) i state.known 1024 [] e (point_of i) ≡ Ok address
   pub index : ℕ
@@ -51,7 +51,7 @@ pub record Spans (known : Known) (s start end : ℕ) : Type 0 where
   pub ends : known (End s) ≡ Some end
 
 -- section s starts at a multiple of 2 ^ alignment, is loaded there, and ends no lower and below 2 ^ 64
-pub record SectionStands (known : Known) (s alignment : ℕ) : Type 0 where
+pub record LaidSectionStands (known : Known) (s alignment : ℕ) : Type 0 where
   pub start : ℕ
   pub end : ℕ
   pub spans : Spans known s start end

@@ -20,9 +20,9 @@ pub record SectionStands (place : PlacedSection) : Type 0 where
   pub loaded : place.load ≡ place.start
   pub below : place.start + place.size < 2 ^ 64
 
--- what starts at one address and has this size holds the address x
-abbrev pub Holds : ℕ → ℕ → ℕ → Type 0
-Holds start size x = (start ≤ x) × (x < start + size)
+-- what starts at one address and has this size covers the address x
+abbrev pub Covers : ℕ → ℕ → ℕ → Type 0
+Covers start size x = (start ≤ x) × (x < start + size)
 
 -- row r of the table is listed at an address of section s
 pub record Lists (inputs : InputTable) (plan : Layout) (r s address : ℕ) (row : InputRow) : Type 0 where

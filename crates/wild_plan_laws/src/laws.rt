@@ -2,7 +2,7 @@
 
 ghost use Rattle.std.specs.Prelude.{◌≡◌, ℕ, ◌+◌, ◌^◌, ◌<◌, Some, slice_get};
 ghost use Rattle.wild_expression_tree.specs.declared.tree.Expression.{Expression};
-ghost use Rattle.wild_plan_laws.specs.Holding.{HasAddress, Holds, LiesIn, RowHolds, SectionHolds, SectionStands, StandInPlace};
+ghost use Rattle.wild_plan_laws.specs.Holding.{HasAddress, LaidLocationHolds, LiesIn, RowHolds, SectionHolds, LaidSectionStands, StandInPlace};
 ghost use Rattle.wild_plan_spec.specs.declared.chunk.Kept.{Kept};
 ghost use Rattle.wild_plan_spec.specs.declared.row.InputRow.{InputRow};
 ghost use Rattle.wild_plan_spec.specs.declared.row.InputTable.{InputTable};
@@ -22,7 +22,7 @@ ghost use Rattle.wild_value_spec.specs.Known.{Address};
 /// expression has over the finished layout.
 pub fn locations_hold()
     ensures { (script : Bytes) (t : LinkerScript) (inputs : InputTable) (state : State) → IsLaid script t inputs state
-        → (i : ℕ) (e : Expression) → slice_get (places_of t inputs) i ≡ Some (SetLocation e) → Holds script t inputs state i e }
+        → (i : ℕ) (e : Expression) → slice_get (places_of t inputs) i ≡ Some (SetLocation e) → LaidLocationHolds script t inputs state i e }
 {}
 
 /// Where all places are laid out, each row whose address is known stands at a multiple of its alignment and ends below
@@ -49,7 +49,7 @@ pub fn symbols_stand_in_rows()
 pub fn sections_stand()
     ensures { (script : Bytes) (t : LinkerScript) (inputs : InputTable) (state : State) → IsLaid script t inputs state
         → (s : ℕ) (name : Name) → slice_get (section_names t inputs) s ≡ Some name
-        → SectionStands state.known s (largest_alignment (section_rows s inputs.rows (fates_of t inputs))) }
+        → LaidSectionStands state.known s (largest_alignment (section_rows s inputs.rows (fates_of t inputs))) }
 {}
 
 /// Where all places are laid out, each row that has an address lies in the section of its chunk.

@@ -2,7 +2,7 @@
 
 ghost use Rattle.std.specs.Prelude.{◌≡◌, ℕ, Some, slice_get};
 ghost use Rattle.wild_expression_tree.specs.declared.tree.Expression.{Expression};
-ghost use Rattle.wild_plan_laws.specs.Listing.{Holds, Lists, LocationHolds, RowStands, SectionStands, SymbolStands};
+ghost use Rattle.wild_plan_laws.specs.Listing.{Covers, Lists, LocationHolds, RowStands, SectionStands, SymbolStands};
 ghost use Rattle.wild_plan_spec.specs.declared.placed.PlacedSection.{PlacedSection};
 ghost use Rattle.wild_plan_spec.specs.declared.row.InputRow.{InputRow};
 ghost use Rattle.wild_plan_spec.specs.declared.row.InputTable.{InputTable};
@@ -38,14 +38,14 @@ pub fn listed_symbols_stand()
 pub fn listed_sections_do_not_overlap()
     ensures { (script : Bytes) (inputs : InputTable) (plan : Layout) → IsPlan script inputs plan
         → (s u : ℕ) (one other : PlacedSection) → slice_get plan.sections s ≡ Some one → slice_get plan.sections u ≡ Some other
-        → (x : ℕ) → Holds one.start one.size x → Holds other.start other.size x → s ≡ u }
+        → (x : ℕ) → Covers one.start one.size x → Covers other.start other.size x → s ≡ u }
 {}
 
 /// No address is one of two rows of a plan that fits.
 pub fn listed_rows_do_not_overlap()
     ensures { (script : Bytes) (inputs : InputTable) (plan : Layout) → IsPlan script inputs plan
         → (p r s u a b : ℕ) (one other : InputRow) → Lists inputs plan p s a one → Lists inputs plan r u b other
-        → (x : ℕ) → Holds a one.size x → Holds b other.size x → p ≡ r }
+        → (x : ℕ) → Covers a one.size x → Covers b other.size x → p ≡ r }
 {}
 
 /// Each statement of the location counter in SECTIONS is listed in a plan that fits, with the value that its expression has
