@@ -2,7 +2,7 @@
 use Rattle.std.proofs.Common.{◌≡◌, ◌∙◌, sym, ap, refl, ℕ, ◌≤◌, false, List, [], length, Option, Some, None, IfSome, Ok, Err, inl, inr, ⊎_elim}
 use Rattle.std.proofs.lemmas.Bool.{le-ltb}
 use Rattle.std.proofs.lemmas.List.{append-nil}
-use Rattle.wild_base.specs.declared.fault.Fault as f
+use Rattle.wild_names.specs.declared.fault.Fault as f
 use Rattle.wild_plan_spec.specs.declared.row.InputTable.{InputTable}
 use Rattle.wild_plan_spec.specs.Fit.{IsThePlan, IsTheFault}
 use Rattle.wild_plan_spec.specs.Layout.{Layout}

@@ -1,6 +1,6 @@
 -- What the words and the told files ask for, and which answers meet that.
 use Rattle.std.specs.Prelude.{◌≡◌, ◌⊎◌, ℕ, Bool, nat_lt, List, length, Option, Some, None, IfSome, IsSome, Result, Ok, Err, if◌then◌else◌}
-use Rattle.wild_base.specs.declared.fault.Fault as f
+use Rattle.wild_names.specs.declared.fault.Fault as f
 use Rattle.wild_plan_spec.specs.declared.row.InputTable.{InputTable}
 use Rattle.wild_plan_spec.specs.Fit.{IsPlan, IsFault}
 use Rattle.wild_plan_spec.specs.Layout.{Layout}

@@ -1,6 +1,6 @@
 -- How a run ends: what it answers, why, and what it wrote.
 use Rattle.std.specs.Prelude.{◌≡◌, ◌≤◌, ◌⊎◌, ℕ, List, [], Option, Some, None, IfSome, Ok, Err, ⊤}
-use Rattle.wild_base.specs.declared.fault.Fault as f
+use Rattle.wild_names.specs.declared.fault.Fault as f
 use Rattle.wild_plan_spec.specs.Names.{Name}
 use Rattle.wild_cli.specs.Device.{Rose, Got, GotPrefix}
 use Rattle.wild_cli.specs.Due.{Answer, Task, task_of, Meets, IsDue, status_of_answer}

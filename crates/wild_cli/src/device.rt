@@ -6,7 +6,7 @@ ghost use Rattle.wild_cli.specs.declared.device.LoadFault.TheVariants as load;
 ghost use Rattle.wild_cli.specs.declared.device.SinkFault.TheVariants as sink;
 
 use std::alloc::{AllocError, Global};
-use wild_base::{Name, NoMemory};
+use wild_names::{Name, NoMemory};
 
 // How many bytes a file may have.
 pub(crate) const MAX_LENGTH: usize = 1 << 24;

@@ -9,7 +9,7 @@ use std::alloc::Global;
 use std::io::{Read, Write};
 use std::marker::Model;
 use std::{fs, str};
-use wild_base::Name;
+use wild_names::Name;
 
 /// The files of the system, by their paths. A name that isn't UTF-8 fails. Contracts see how many loads failed, and the
 /// name that failed last.

@@ -8,7 +8,7 @@ ghost use Rattle.wild_cli.specs.declared.refusal.Refusal.TheVariants.{NoMemory a
 
 use crate::{TableFault, WordsFault};
 use std::alloc::{AllocError, Global};
-use wild_base::{Fault, Name, NoMemory};
+use wild_names::{Fault, Name, NoMemory};
 use wild_plan::{fault_text, name_text};
 
 /// Why a run writes no plan.

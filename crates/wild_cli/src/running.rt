@@ -9,7 +9,7 @@ ghost use Rattle.wild_cli.specs.Run.{loading, putting, HasCause, Ends, Outcome, 
 use crate::refusal::Refusal;
 use crate::{Files, LoadFault, Request, Sink, SinkFault, read_table, read_words};
 use std::alloc::Global;
-use wild_base::{Architecture, Fault, Name, RelocationModel};
+use wild_names::{Architecture, Fault, Name, RelocationModel};
 use wild_plan::{InputTable, PlanOptions, plan};
 use wild_sections::OutputKind;
 

@@ -10,7 +10,7 @@ use crate::sure::{find_content, load_content};
 use crate::{Files, LoadFault, ShelfFile, Sink, SinkFault};
 use std::alloc::Global;
 use std::marker::Model;
-use wild_base::Name;
+use wild_names::Name;
 
 /// Files in memory, of which chosen loads fail. Contracts see its files, the numbers of the loads that fail, how many
 /// loads came and failed, and the name that failed last.

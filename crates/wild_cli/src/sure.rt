@@ -10,7 +10,7 @@ use crate::device::MAX_LENGTH;
 use crate::{Files, LoadFault, Sink, SinkFault};
 use std::alloc::Global;
 use std::marker::Model;
-use wild_base::Name;
+use wild_names::Name;
 
 /// A file in memory.
 #[derive(Debug, Drop)]

@@ -5,7 +5,7 @@ use crate::{
 use std::alloc::Global;
 use std::fs;
 use std::test::Fail;
-use wild_base::{Fault, Name, NoMemory};
+use wild_names::{Fault, Name, NoMemory};
 
 const USAGE: &[u8] =
     b"usage: plan SCRIPT TABLE [--kind=K] [--arch=A] [--endian=E] [--headers=N] [--start=NAME=N] | sample N\n";

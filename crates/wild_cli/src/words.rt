@@ -5,7 +5,7 @@ ghost use Rattle.wild_cli.specs.declared.words.WordsFault.TheVariants.{NoMemory}
 ghost use Rattle.wild_cli.specs.Words.{command, is_plan, Reads};
 
 use std::alloc::Global;
-use wild_base::{Name, NoMemory};
+use wild_names::{Name, NoMemory};
 
 /// What the words of a command line ask for.
 #[derive(Debug, Drop)]

@@ -1,6 +1,6 @@
 -- The definitions at a reader's names, statement and table.
 use Rattle.std.specs.Prelude.{ℕ, List, Option, Result}
-use Rattle.wild_base.specs.declared.fault.Fault.{Fault}
+use Rattle.wild_names.specs.declared.fault.Fault.{Fault}
 use Rattle.wild_expression_tree.specs.declared.tree.AssertCommand.{AssertCommand}
 use Rattle.wild_expression_tree.specs.declared.tree.Expression.{Expression, out-Expression}
 use Rattle.wild_value_spec.specs.declared.operator.Arithmetic.{Arithmetic}

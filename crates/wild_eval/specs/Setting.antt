@@ -2,7 +2,7 @@
 use Rattle.std.specs.Prelude.{ℕ, List, [], ◌∷◌, Option, Some, None, slice_get}
 use Rattle.std.specs.Option.{option_map, unwrap_or}
 use denote.Ref.{Bor}
-use Rattle.wild_base.specs.Numbering.{number_of}
+use Rattle.wild_numbering.specs.Numbering.{number_of}
 use Rattle.wild_eval.specs.declared.names.Definition.{Definition}
 use Rattle.wild_eval.specs.declared.names.Definition.TheVariants as kept
 use Rattle.wild_eval.specs.declared.names.Entry.{Entry}

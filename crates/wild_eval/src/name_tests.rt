@@ -3,8 +3,9 @@ use sqlite_items::Boxed;
 use std::alloc::Global;
 use std::test::Fail;
 use wild_base::alignment::USIZE;
-use wild_base::{Fault, Name, NoMemory, Numbering};
+use wild_base::{Fault, Name, NoMemory};
 use wild_expression_tree::{AssertCommand, Expression};
+use wild_numbering::Numbering;
 
 type Tree = Boxed<Expression>;
 

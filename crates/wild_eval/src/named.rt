@@ -1,7 +1,7 @@
 //! What a reader makes of the names of sections and symbols without looking into a part.
 
 ghost use Rattle.std.specs.Prelude.{◌≡◌, ◌<◌, ◌≤◌, ◌+◌, IfOk, Err, Some};
-ghost use Rattle.wild_base.specs.declared.fault.Fault.TheVariants as fault;
+ghost use Rattle.wild_names.specs.declared.fault.Fault.TheVariants as fault;
 ghost use Rattle.wild_eval.specs.Plain as spec;
 ghost use Rattle.wild_value_spec.specs.Answer.{Returns};
 

@@ -6,8 +6,9 @@ ghost use Rattle.wild_eval.specs.Setting.{entry_at, path_of, setting_of, shown_d
 ghost use Rattle.wild_value_spec.specs.Setting.{line_of};
 ghost use Rattle.wild_value_spec.specs.Value.{is_on};
 
-use wild_base::{Alignment, Name, Numbering};
+use wild_base::{Alignment, Name};
 use wild_expression_tree::Expression;
+use wild_numbering::Numbering;
 use wild_value_spec::Point;
 
 /// What a symbol is.

@@ -2,8 +2,9 @@ use crate::{ConstFault, Names, Path, Point, Reader, Table, evaluate_const};
 use sqlite_items::Boxed;
 use std::alloc::Global;
 use std::test::Fail;
-use wild_base::{Alignment, Name, NoMemory, Numbering};
+use wild_base::{Alignment, Name, NoMemory};
 use wild_expression_tree::Expression;
+use wild_numbering::Numbering;
 
 type Tree = Boxed<Expression>;
 

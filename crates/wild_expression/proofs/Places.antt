@@ -1,6 +1,6 @@
 -- What is read at the place of a new cursor is read from its position.
 use Rattle.std.proofs.Common.{◌≡◌, ◌⊎◌, ℕ, ◌≤◌, ◌<◌, ◌-◌, length, subst, sym, ◌∙◌, ap, inl, inr, refl, arith}
-use Rattle.wild_base.specs.declared.fault.Fault.TheVariants as fault
+use Rattle.wild_names.specs.declared.fault.Fault.TheVariants as fault
 use Rattle.wild_reading.specs.Place.{Bytes, Text, Place, ahead}
 use Rattle.wild_reading.specs.Only.{IsOnly, Refuses, IsCause}
 use Rattle.wild_reading.specs.declared.stop.Stop.{Stop}

@@ -11,7 +11,7 @@ use Rattle.wild_expression_words.specs.Operators.{operand, operator, ends, node,
 use Rattle.wild_expression_words.specs.Words.{identifier, head}
 use Rattle.wild_expression_tree.specs.declared.tree.Expression.{Expression}
 use Rattle.wild_expression_tree.specs.declared.tree.Expression.TheVariants as e
-use Rattle.wild_base.specs.SegmentNames.{segment_of}
+use Rattle.wild_names.specs.SegmentNames.{segment_of}
 use Rattle.wild_expression_words.specs.declared.operators.Level.{Level}
 use Rattle.wild_expression_words.specs.declared.operators.Level.TheVariants as l
 use Rattle.wild_expression_words.specs.declared.operators.Operator.{Operator}

@@ -1,7 +1,7 @@
 use crate::readings::parse_expression;
 use std::alloc::{AllocError, Global};
 use std::test::Fail;
-use wild_base::Fault;
+use wild_names::Fault;
 
 // The position behind the expression at the start, or where it is not read.
 fn end(alloc: Global, text: &[u8]) -> Result<usize, Fault> {

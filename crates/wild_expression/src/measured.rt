@@ -5,7 +5,7 @@ ghost use Rattle.wild_expression.specs.Grammar as spec;
 
 use sqlite_items::Boxed;
 use std::alloc::{AllocError, Global};
-use wild_base::{Name, SegmentName};
+use wild_names::{Name, SegmentName};
 use wild_expression_tree::{AssertCommand, Expression};
 use wild_expression_words::{Extreme, Operator, Question, Sign, node, signed_node};
 

@@ -1,12 +1,12 @@
 //! Reads an expression at a position.
 
 ghost use Rattle.std.specs.Prelude.{◌≡◌, ◌≤◌, ◌⊎◌, length, IfOk, IfErr};
-ghost use Rattle.wild_base.specs.declared.fault.Fault.TheVariants.{NoMemory};
+ghost use Rattle.wild_names.specs.declared.fault.Fault.TheVariants.{NoMemory};
 ghost use Rattle.wild_expression.specs.Readings.{plain_fault, IsExpression, IsRefusal};
 
 use crate::values::value;
 use std::alloc::Global;
-use wild_base::Fault;
+use wild_names::Fault;
 use wild_expression_tree::Expression;
 use wild_expression_words::Level;
 use wild_reading::{Cursor, Stop};

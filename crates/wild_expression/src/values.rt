@@ -12,7 +12,7 @@ use crate::measured::{
     Measured, align_counter, align_value, ask, assert_that, choose, join, pair_up, put_sign, start,
 };
 use std::alloc::Global;
-use wild_base::Name;
+use wild_names::Name;
 use wild_expression_words::{
     Call, Extreme, Head, Level, Piece, Question, ends, is_signed, name, operand, pass_operator,
     pass_sign, quoted_name, read_head,

@@ -4,8 +4,8 @@ use Rattle.std.proofs.lemmas.Bool.{and_parts, eqb-true}
 use Rattle.std.proofs.lemmas.Slice.Eq.{bytes_eq-Decides}
 use Rattle.wild_expression_tree.specs.Equality.{Label, Shape, absent, node, label_eq, plain, segment, shape, held_shape, shape_eq, erased, erased_held, same_equiv, size, EqualityIsSameness}
 use Rattle.wild_expression_tree.proofs.Shapes.{some}
-use Rattle.wild_base.specs.declared.segment_name.SegmentName.{SegmentName}
-use Rattle.wild_base.specs.declared.segment_name.SegmentName.TheVariants.{Text, Data, Bss, Unknown}
+use Rattle.wild_names.specs.declared.segment_name.SegmentName.{SegmentName}
+use Rattle.wild_names.specs.declared.segment_name.SegmentName.TheVariants.{Text, Data, Bss, Unknown}
 use Rattle.wild_expression_tree.specs.declared.tree.Expression.{Expression, Held-Expression-Align-1, end_of-Expression, more_of-Expression, None', Some', Number, LocationCounter, SizeofHeaders, Symbol, Sizeof, Alignof, Addr, Loadaddr, Origin, Length, Defined, LogicalOr', LogicalAnd', LessEqual', GreaterEqual', Equal', NotEqual', LessThan', GreaterThan', BitwiseOr', BitwiseXor', BitwiseAnd', LeftShift', RightShift', Add', Subtract', Multiply', Divide', Modulo', LogicalNot', BitwiseNot', Negate', Ternary', Min', Max', Align', SegmentStart', Assert'}
 
 abbrev segment_named : ℕ → SegmentName

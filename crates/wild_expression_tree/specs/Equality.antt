@@ -6,8 +6,8 @@ use Rattle.std.proofs.Common.{refl, sym, true≢false}
 use Rattle.std.proofs.lemmas.Bool.{and_parts}
 use Rattle.std.specs.Ordering.{on, eq_of_both}
 use Rattle.wild_expression_tree.specs.declared.tree.AssertCommand.{AssertCommand}
-use Rattle.wild_base.specs.declared.segment_name.SegmentName.{SegmentName}
-use Rattle.wild_base.specs.declared.segment_name.SegmentName.TheVariants.{Text, Data, Bss, Unknown}
+use Rattle.wild_names.specs.declared.segment_name.SegmentName.{SegmentName}
+use Rattle.wild_names.specs.declared.segment_name.SegmentName.TheVariants.{Text, Data, Bss, Unknown}
 use Rattle.wild_expression_tree.specs.declared.tree.Expression.{Expression, Held-Expression-Align-1, Row_of-Expression, end_of-Expression, more_of-Expression, None', Some', Number, LocationCounter, SizeofHeaders, Symbol, Sizeof, Alignof, Addr, Loadaddr, Origin, Length, Defined, LogicalOr', LogicalAnd', LessEqual', GreaterEqual', Equal', NotEqual', LessThan', GreaterThan', BitwiseOr', BitwiseXor', BitwiseAnd', LeftShift', RightShift', Add', Subtract', Multiply', Divide', Modulo', LogicalNot', BitwiseNot', Negate', Ternary', Min', Max', Align', SegmentStart', Assert'}
 
 -- what an expression is apart from its operands: which variant, and the number and the name in it

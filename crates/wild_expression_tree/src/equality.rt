@@ -6,7 +6,7 @@ ghost use Rattle.std.specs.Cmp.{partial_equiv_from_equiv};
 ghost use Rattle.wild_expression_tree.specs.Equality as spec;
 
 use crate::tree::{AssertCommand, Expression};
-use wild_base::SegmentName;
+use wild_names::SegmentName;
 
 // The variant of an expression with no operands.
 fn leaf_variant(expression: &Expression) -> Option<u8>

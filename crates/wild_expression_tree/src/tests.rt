@@ -2,7 +2,7 @@ use crate::tree::{AssertCommand, Expression};
 use sqlite_items::Boxed;
 use std::alloc::{AllocError, Global};
 use std::test::Fail;
-use wild_base::{Name, NoMemory, SegmentName};
+use wild_names::{Name, NoMemory, SegmentName};
 
 fn number(alloc: Global, value: u64) -> Result<Boxed<Expression>, AllocError> {
     Boxed::new(alloc, Expression::Number(value))

@@ -1,7 +1,7 @@
 //! Expressions as trees.
 
 use sqlite_items::Boxed;
-use wild_base::{Name, SegmentName};
+use wild_names::{Name, SegmentName};
 
 /// An expression. Operands stand in written order.
 #[cycle(expressions)]

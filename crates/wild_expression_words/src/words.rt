@@ -12,7 +12,7 @@ use crate::literal::literal;
 use crate::piece::Piece;
 use sqlite_items::Boxed;
 use std::alloc::Global;
-use wild_base::{Name, NoMemory};
+use wild_names::{Name, NoMemory};
 use wild_expression_tree::Expression;
 use wild_reading::{Cursor, Stop};
 

@@ -1,7 +1,7 @@
 -- The first failure among checks that follow each other.
 use Rattle.std.proofs.Common.{◌≡◌, ◌∙◌, inl, inr, Bool, true, false, not, List, [], ◌∷◌, ◌++◌, cond, refl, Option, Some, None}
 use Rattle.std.specs.Option.{option_map, option_or}
-use Rattle.wild_base.specs.declared.fault.Fault.{Fault}
+use Rattle.wild_names.specs.declared.fault.Fault.{Fault}
 use Rattle.wild_plan_spec.specs.Checks.{Check, failing}
 use Rattle.wild_fates.specs.Passes.{IsWanted}
 

@@ -2,7 +2,7 @@
 use Rattle.std.proofs.Common.{◌≡◌, ℕ, ◌+◌, Bool, true, false, ◌||◌, List, [], ◌∷◌, cond, refl, Option, Some}
 use Rattle.std.specs.List.{list_any, position_from}
 use Rattle.std.specs.Option.{is_some}
-use Rattle.wild_base.specs.Numbering.{is_named, number_of}
+use Rattle.wild_numbering.specs.Numbering.{is_named, number_of}
 
 module _ {X : Type 0} (p : X → Bool) where
   any_by : (b c : Bool) (n : ℕ) (k : Option ℕ) → c ≡ is_some k → (b || c) ≡ is_some (cond b (Some n) k)

@@ -1,7 +1,7 @@
 -- Patterns that make a rule pass their checks, and those that make none fail one.
 use Rattle.std.proofs.Common.{◌≡◌, ◌∙◌, ℕ, Bool, true, false, List, [], ◌∷◌, cond, refl, sym, ap, Option, Some, None, Result, Ok, Err}
 use Rattle.std.specs.Result.{is_ok}
-use Rattle.wild_base.specs.declared.fault.Fault.TheVariants as fault
+use Rattle.wild_names.specs.declared.fault.Fault.TheVariants as fault
 use Rattle.wild_glob.specs.declared.piece.Piece.{Piece}
 use Rattle.wild_glob.specs.declared.escape.GlobPatternType.{GlobPatternType}
 use Rattle.wild_glob.specs.declared.escape.GlobPatternType.TheVariants as kind

@@ -1,7 +1,7 @@
 -- Names and decisions as they are collected, row by row.
 use Rattle.std.specs.Prelude.{List, [], ◌∷◌, ◌++◌, Option, if◌then◌else◌}
 use Rattle.std.specs.List.{list_any}
-use Rattle.wild_base.specs.Numbering.{is_named}
+use Rattle.wild_numbering.specs.Numbering.{is_named}
 use Rattle.wild_plan_spec.specs.declared.chunk.Kept.{Kept}
 use Rattle.wild_plan_spec.specs.declared.chunk.Decision.{Decision}
 use Rattle.wild_plan_spec.specs.declared.chunk.Decision.TheVariants.{Discard, Keep, ByName}

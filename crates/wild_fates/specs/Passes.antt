@@ -1,9 +1,9 @@
 -- What a check answers.
 use Rattle.std.specs.Prelude.{◌≡◌, ◌⊎◌, List, Option, Some, None, Result, IfOk, IfErr, if◌then◌else◌}
 use Rattle.std.specs.List.{list_any}
-use Rattle.wild_base.specs.Numbering.{is_named}
-use Rattle.wild_base.specs.declared.fault.Fault.{Fault}
-use Rattle.wild_base.specs.declared.fault.Fault.TheVariants.{NoMemory}
+use Rattle.wild_numbering.specs.Numbering.{is_named}
+use Rattle.wild_names.specs.declared.fault.Fault.{Fault}
+use Rattle.wild_names.specs.declared.fault.Fault.TheVariants.{NoMemory}
 use Rattle.wild_plan_spec.specs.Names.{Name}
 
 -- memory ran out, or this is the fault that is wanted

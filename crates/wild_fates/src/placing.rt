@@ -1,7 +1,7 @@
 //! From a script and a table to places, sections and fates.
 
 ghost use Rattle.std.specs.Prelude.{◌≡◌, ◌∷◌, ◌++◌, [], IfOk};
-ghost use Rattle.wild_base.specs.declared.fault.Fault.TheVariants.{DuplicateSection};
+ghost use Rattle.wild_names.specs.declared.fault.Fault.TheVariants.{DuplicateSection};
 ghost use Rattle.wild_plan_spec.specs.Checks.{name_checks, script_checks, failing};
 ghost use Rattle.wild_plan_spec.specs.Fates.{names_of};
 ghost use Rattle.wild_fates.specs.Passes.{Passes, repeated};

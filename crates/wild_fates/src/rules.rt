@@ -2,7 +2,7 @@
 
 ghost use Rattle.std.specs.Prelude.{◌≡◌, ◌⊎◌, ◌<◌, ◌^◌, ◌++◌, [], ◌∷◌, IfOk, OnOk, Option, Some, length};
 ghost use Rattle.std.specs.Option.{option_copied, option_to_list};
-ghost use Rattle.wild_base.specs.declared.fault.Fault.TheVariants as fault;
+ghost use Rattle.wild_names.specs.declared.fault.Fault.TheVariants as fault;
 ghost use Rattle.wild_rules.specs.declared.fault.RuleFault.TheVariants as why;
 ghost use Rattle.wild_rules.specs.Making.{script_rule};
 ghost use Rattle.wild_plan_spec.specs.Checks.{is_task_built, is_place_built, chunk_checks, pattern_check, pattern_checks, matcher_checks, checks_at, place_checks, failing};

@@ -1,13 +1,14 @@
 //! The names of sections, by their numbers.
 
 ghost use Rattle.std.specs.Prelude.{◌≡◌, [], ◌∷◌, ◌++◌, IfOk, length};
-ghost use Rattle.wild_base.specs.Numbering.{number_of};
+ghost use Rattle.wild_numbering.specs.Numbering.{number_of};
 ghost use Rattle.wild_fates.specs.Pointed.{pointed};
 
 use sqlite_items::Items;
 use std::alloc::Global;
 use std::marker::Model;
-use wild_base::{Name, NoMemory, Numbering};
+use wild_base::{Name, NoMemory};
+use wild_numbering::Numbering;
 
 /// The names of sections, which are numbered in order from 0. Contracts see them as a list.
 #[derive(Drop)]

@@ -6,7 +6,7 @@ ghost use Rattle.wild_glob.specs.Class as spec;
 use crate::piece::ClassItem;
 use sqlite_items::Items;
 use std::alloc::Global;
-use wild_base::NoMemory;
+use wild_names::NoMemory;
 
 /// How many characters the items of a class have, which begin the text: those before the first `]` that is not in
 /// first place. None where no `]` closes the class.

@@ -5,7 +5,7 @@ ghost use Rattle.wild_glob.specs.Character.{backslash};
 ghost use Rattle.wild_glob.specs.Escape.{has_unescaped, pattern_type, without_escapes};
 
 use std::alloc::Global;
-use wild_base::{Name, NoMemory};
+use wild_names::{Name, NoMemory};
 
 /// What a section pattern needs for its match.
 #[derive(Clone, Copy, Debug, PartialEq, Eq)]

@@ -4,7 +4,7 @@ ghost use Rattle.std.specs.Prelude.{◌≡◌};
 ghost use Rattle.wild_glob.specs.declared.fault.PatternFault.TheVariants as fault;
 
 use std::alloc::AllocError;
-use wild_base::NoMemory;
+use wild_names::NoMemory;
 
 /// Why bytes are no pattern.
 #[derive(Clone, Copy, Debug, PartialEq, Eq)]

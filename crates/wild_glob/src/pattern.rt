@@ -13,7 +13,7 @@ use sqlite_items::Items;
 use std::alloc::Global;
 use std::marker::Model;
 use std::str;
-use wild_base::NoMemory;
+use wild_names::NoMemory;
 
 /// A pattern of names. Contracts see it as the list of its pieces.
 #[derive(Debug, Drop)]

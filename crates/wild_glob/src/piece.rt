@@ -5,7 +5,7 @@ ghost use Rattle.wild_glob.specs.Match as spec;
 
 use sqlite_items::Items;
 use std::alloc::Global;
-use wild_base::NoMemory;
+use wild_names::NoMemory;
 
 /// A part of a pattern.
 #[derive(Debug, Drop)]

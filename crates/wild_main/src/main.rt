@@ -7,7 +7,7 @@ ghost use Rattle.std.specs.Vec.Iter.{into_iter_items};
 use std::alloc::{AllocError, Global};
 use std::process::ExitCode;
 use std::{env, io};
-use wild_base::Name;
+use wild_names::Name;
 use wild_cli::{DirFiles, StreamSink, run};
 
 /// The status where memory runs out.

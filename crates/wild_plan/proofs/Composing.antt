@@ -1,8 +1,8 @@
 -- What the parts of a plan answer makes what the whole answers.
 use Rattle.std.proofs.Common.{◌≡◌, ◌∙◌, ◌++◌, ℕ, Option, List, [], ◌∷◌, length, None, Ok, Err, refl, sym, ap, subst, inl, inr, ⊎_elim}
 use denote.Ref.{Bor}
-use Rattle.wild_base.specs.declared.fault.Fault.{Fault}
-use Rattle.wild_base.specs.declared.fault.Fault.TheVariants.{Syntax, UnclosedComment, UnsupportedNestedSort, TooDeep, DuplicateSymbol}
+use Rattle.wild_names.specs.declared.fault.Fault.{Fault}
+use Rattle.wild_names.specs.declared.fault.Fault.TheVariants.{Syntax, UnclosedComment, UnsupportedNestedSort, TooDeep, DuplicateSymbol}
 use Rattle.wild_script.specs.Tree.{Bytes, tree, IsTree, IsParseFault}
 use Rattle.wild_script.specs.declared.tree.LinkerScript.{LinkerScript}
 use Rattle.wild_value_spec.specs.Known.{Known}

@@ -1,7 +1,7 @@
 -- The checks of a script and its table, by their four parts.
 use Rattle.std.proofs.Common.{◌≡◌, List, [], ◌++◌, None}
-use Rattle.wild_base.specs.declared.fault.Fault.{Fault}
-use Rattle.wild_base.specs.declared.fault.Fault.TheVariants.{DuplicateSymbol}
+use Rattle.wild_names.specs.declared.fault.Fault.{Fault}
+use Rattle.wild_names.specs.declared.fault.Fault.TheVariants.{DuplicateSymbol}
 use Rattle.wild_script.specs.declared.tree.LinkerScript.{LinkerScript}
 use Rattle.wild_plan_spec.specs.declared.row.InputTable.{InputTable}
 use Rattle.wild_plan_spec.specs.Fates.{fates_of}

@@ -1,7 +1,7 @@
 -- Traits of lists of rows.
 use Rattle.std.proofs.Common.{◌≡◌, ◌∙◌, ℕ, Bool, true, false, ◌||◌, List, [], ◌∷◌, max, cond, refl, sym, arith, Option}
 use Rattle.std.specs.List.{list_any}
-use Rattle.wild_base.specs.InputFlags.{is_write, is_exec}
+use Rattle.wild_names.specs.InputFlags.{is_write, is_exec}
 use Rattle.wild_plan_spec.specs.declared.chunk.Kept.{Kept}
 use Rattle.wild_plan_spec.specs.declared.row.InputRow.{InputRow}
 use Rattle.wild_plan_spec.specs.Chunks.{alignment_of, is_in, section_rows, largest_alignment}

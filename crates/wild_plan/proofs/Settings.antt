@@ -4,7 +4,7 @@ use Rattle.std.proofs.Math.Path.{fun_ext}
 use Rattle.std.specs.Prelude.{slice_get}
 use Rattle.std.specs.Option.{unwrap_or}
 use denote.Ref.{Bor}
-use Rattle.wild_base.specs.Numbering.{number_of}
+use Rattle.wild_numbering.specs.Numbering.{number_of}
 use Rattle.wild_script.specs.Tree.{Bytes}
 use Rattle.wild_script.specs.declared.tree.LinkerScript.{LinkerScript}
 use Rattle.wild_value_spec.specs.Setting.{Definition, Setting, line_of}

@@ -1,6 +1,6 @@
 -- What a walk stands for.
 use Rattle.std.specs.Prelude.{◌≡◌, Result, Ok, Err}
-use Rattle.wild_base.specs.declared.fault.Fault.{Fault}
+use Rattle.wild_names.specs.declared.fault.Fault.{Fault}
 use Rattle.wild_value_spec.specs.Answer.{Fails}
 use Rattle.wild_plan_spec.specs.Line.{State}
 use Rattle.wild_plan.specs.declared.walk.Walk.{Walk}

@@ -4,7 +4,7 @@ use Rattle.std.specs.Option.{unwrap_or}
 use Rattle.std.specs.List.{list_any}
 use Rattle.std.specs.Ordering.{nat_cmp}
 use Rattle.std.specs.BTreeMap.{get}
-use Rattle.wild_base.specs.InputFlags.{is_write, is_exec}
+use Rattle.wild_names.specs.InputFlags.{is_write, is_exec}
 use Rattle.wild_plan_spec.specs.declared.row.InputRow.{InputRow}
 use Rattle.wild_plan_spec.specs.Chunks.{largest_alignment}
 use Rattle.wild_plan.specs.declared.traits.Traits.{Traits}

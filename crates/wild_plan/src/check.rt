@@ -2,8 +2,8 @@
 
 ghost use Rattle.std.specs.Prelude.{◌≡◌, [], ◌∷◌, ◌++◌, OnOk, IfOk, not, slice_get, length};
 ghost use Rattle.std.specs.List.{list_any};
-ghost use Rattle.wild_base.specs.Numbering.{is_named};
-ghost use Rattle.wild_base.specs.declared.fault.Fault.TheVariants.{DuplicateSymbol};
+ghost use Rattle.wild_numbering.specs.Numbering.{is_named};
+ghost use Rattle.wild_names.specs.declared.fault.Fault.TheVariants.{DuplicateSymbol};
 ghost use Rattle.wild_plan_spec.specs.Checks.{row_checks, holds_offset, symbol_checks, name_checks, is_plain, is_supported, support_checks, failing};
 ghost use Rattle.wild_plan_spec.specs.Definitions.{entry_names};
 ghost use Rattle.wild_plan.specs.Entries.{shown_entries};
@@ -11,8 +11,9 @@ ghost use Rattle.wild_fates.specs.Passes.{Passes, repeated};
 
 use bitflags::Flags;
 use std::alloc::Global;
-use wild_base::{Alignment, Fault, InputFlags, Name, NoMemory, Numbering};
+use wild_base::{Alignment, Fault, InputFlags, Name, NoMemory};
 use wild_eval::Entry;
+use wild_numbering::Numbering;
 use wild_plan_spec::{InputRow, Kept, SymbolRow};
 
 /// Checks that each row has an alignment. The fault is that of the first that has none.

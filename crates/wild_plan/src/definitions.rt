@@ -8,9 +8,10 @@ ghost use Rattle.wild_fates.specs.Shown.{shown, shown_place, shown_task};
 
 use sqlite_items::Items;
 use std::alloc::Global;
-use wild_base::{Name, NoMemory, Numbering};
+use wild_base::{Name, NoMemory};
 use wild_eval::{Definition, Entry};
 use wild_fates::{Place, Task};
+use wild_numbering::Numbering;
 use wild_plan_spec::{Chunk, Kept, SymbolRow};
 use wild_script::ProvideSymbolDefinition;
 use wild_value_spec::Point;

@@ -1,7 +1,7 @@
 //! From the bytes of a script and a table to a plan.
 
 ghost use Rattle.std.specs.Prelude.{◌≡◌, ◌⊎◌, ◌++◌, IfOk, IfErr, None, length};
-ghost use Rattle.wild_base.specs.declared.fault.Fault.TheVariants as fault;
+ghost use Rattle.wild_names.specs.declared.fault.Fault.TheVariants as fault;
 ghost use Rattle.wild_script.specs.declared.tree.LinkerScript.{LinkerScript};
 ghost use Rattle.wild_plan_spec.specs.Checks.{row_checks, symbol_checks, checks, failing};
 ghost use Rattle.wild_plan_spec.specs.Fit.{IsThePlan, IsTheFault, Fits, LayoutFault, EndFault, FaultIn};
@@ -22,9 +22,10 @@ use crate::traits::{SectionTraits, find_traits};
 use crate::walk::{Given, Walk, lay_out};
 use sqlite_items::Items;
 use std::alloc::Global;
-use wild_base::{Alignment, Fault, Name, NoMemory, Numbering};
+use wild_base::{Alignment, Fault, Name, NoMemory};
 use wild_eval::{Entry, Names};
 use wild_fates::{Placed, place_rows};
+use wild_numbering::Numbering;
 use wild_plan_spec::{InputTable, PlacedSymbol, PlanOptions};
 use wild_script::LinkerScript;
 

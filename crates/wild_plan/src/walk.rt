@@ -1,7 +1,7 @@
 //! The walk over the places of a script, which finds each address.
 
 ghost use Rattle.std.specs.Prelude.{◌≡◌, ◌⊎◌, ℕ, length, IfOk, IfErr};
-ghost use Rattle.wild_base.specs.declared.fault.Fault.TheVariants as fault;
+ghost use Rattle.wild_names.specs.declared.fault.Fault.TheVariants as fault;
 ghost use Rattle.wild_value_spec.specs.Answer.{Returns};
 ghost use Rattle.wild_value_spec.specs.Value.{sum_of};
 ghost use Rattle.wild_eval.specs.Setting.{setting_of};

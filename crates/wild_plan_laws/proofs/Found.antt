@@ -4,7 +4,7 @@ use Rattle.std.specs.Prelude.{slice_get}
 use Rattle.std.specs.List.{position_from}
 use Rattle.std.proofs.lemmas.Bool.{cases_lt}
 use Rattle.std.proofs.lemmas.List.{length-append}
-use Rattle.wild_base.specs.Numbering.{is_named, number_of}
+use Rattle.wild_numbering.specs.Numbering.{is_named, number_of}
 use Rattle.wild_glob.specs.declared.piece.Piece.{Piece}
 use Rattle.wild_rules.specs.declared.fault.RuleFault.{RuleFault}
 use Rattle.wild_rules.specs.declared.matcher.SectionNameMatcher.{SectionNameMatcher}

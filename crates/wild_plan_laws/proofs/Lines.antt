@@ -3,9 +3,9 @@ use Rattle.std.proofs.Common.{◌≡◌, ◌∙◌, ◌⊎◌, ℕ, ◌+◌, ◌
 use Rattle.std.proofs.lemmas.Bool.{ltb-true}
 use Rattle.std.proofs.Math.Nat.{zero-mod, mod-add-mod}
 use Rattle.std.proofs.Math.Pow.{mod-mod-pow}
-use Rattle.wild_base.proofs.Multiples.{is_rounded_up}
-use Rattle.wild_base.specs.Alignment.{rounded_up}
-use Rattle.wild_base.specs.declared.fault.Fault.{Fault}
+use Rattle.wild_ids.proofs.Multiples.{is_rounded_up}
+use Rattle.wild_ids.specs.Alignment.{rounded_up}
+use Rattle.wild_names.specs.declared.fault.Fault.{Fault}
 use Rattle.wild_value_spec.specs.Known.{or_else}
 use Rattle.wild_value_spec.specs.Value.{sum_of}
 use Rattle.wild_plan_spec.specs.Line.{up}

@@ -1,7 +1,7 @@
 -- One plan fits, or one fault stands there.
 use Rattle.std.proofs.Common.{◌≡◌, ◌∙◌, List, length, Ok, Err, sym, ap, subst, inl, inr}
 use Rattle.std.proofs.Math.Path.{fun_ext}
-use Rattle.wild_base.specs.declared.fault.Fault.{Fault}
+use Rattle.wild_names.specs.declared.fault.Fault.{Fault}
 use Rattle.wild_script.specs.Tree.{Bytes}
 use Rattle.wild_script.specs.declared.tree.LinkerScript.{LinkerScript}
 use Rattle.wild_plan_spec.specs.declared.chunk.Chunk.{Chunk}

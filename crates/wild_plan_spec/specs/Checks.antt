@@ -3,12 +3,12 @@ use Rattle.std.specs.Prelude.{ℕ, ◌+◌, ◌-◌, ◌^◌, Bool, true, false,
 use Rattle.std.specs.Option.{option_map, is_some}
 use Rattle.std.specs.Result.{is_ok}
 use Rattle.std.specs.List.{find, list_any}
-use Rattle.wild_base.specs.Alignment.{exponent_of}
-use Rattle.wild_base.specs.InputFlags.{is_alloc, is_nobits, is_tls}
-use Rattle.wild_base.specs.Numbering.{is_named}
-use Rattle.wild_base.specs.declared.fault.Fault.{Fault}
-use Rattle.wild_base.specs.declared.fault.Fault.TheVariants.{BadRow, BadSymbolRow, BadPattern, DuplicateSection, DuplicateSymbol, TooManySections, Unsupported}
-use Rattle.wild_base.specs.declared.input_flags.InputFlags.{InputFlags}
+use Rattle.wild_ids.specs.Alignment.{exponent_of}
+use Rattle.wild_names.specs.InputFlags.{is_alloc, is_nobits, is_tls}
+use Rattle.wild_numbering.specs.Numbering.{is_named}
+use Rattle.wild_names.specs.declared.fault.Fault.{Fault}
+use Rattle.wild_names.specs.declared.fault.Fault.TheVariants.{BadRow, BadSymbolRow, BadPattern, DuplicateSection, DuplicateSymbol, TooManySections, Unsupported}
+use Rattle.wild_names.specs.declared.input_flags.InputFlags.{InputFlags}
 use Rattle.wild_rules.specs.Making.{names_of as patterns_of, files_of}
 use Rattle.wild_script.specs.declared.tree.LinkerScript.{LinkerScript}
 use Rattle.wild_script.specs.declared.tree.SectionPattern.{SectionPattern}

@@ -2,7 +2,7 @@
 use Rattle.std.specs.Prelude.{ℕ, ◌+◌, ◌==◌, ◌&&◌, Bool, false, List, [], ◌∷◌, Option, Some, None, if◌then◌else◌, max}
 use Rattle.std.specs.Option.{unwrap_or}
 use Rattle.std.specs.List.{cons_option, filter}
-use Rattle.wild_base.specs.Alignment.{exponent_of}
+use Rattle.wild_ids.specs.Alignment.{exponent_of}
 use Rattle.wild_plan_spec.specs.declared.chunk.Chunk.{Chunk}
 use Rattle.wild_plan_spec.specs.declared.chunk.ChunkRow.{ChunkRow}
 use Rattle.wild_plan_spec.specs.declared.chunk.Kept.{Kept}

@@ -1,6 +1,6 @@
 -- The definitions of symbols.
 use Rattle.std.specs.Prelude.{ℕ, ◌+◌, List, [], ◌∷◌, ◌++◌, Option, Some, None, slice_get}
-use Rattle.wild_base.specs.Numbering.{number_of}
+use Rattle.wild_numbering.specs.Numbering.{number_of}
 use Rattle.wild_script.specs.declared.tree.ProvideSymbolDefinition.{ProvideSymbolDefinition}
 use Rattle.wild_value_spec.specs.declared.value.Point.{Point}
 use Rattle.wild_value_spec.specs.Setting.{Definition, OfRow, OfScript}

@@ -1,8 +1,8 @@
 -- Where each row goes.
 use Rattle.std.specs.Prelude.{ℕ, Bool, false, not, List, [], ◌∷◌, ◌++◌, Option, Some, None, if◌then◌else◌}
 use Rattle.std.specs.List.{filter, list_any}
-use Rattle.wild_base.specs.InputFlags.{is_exclude}
-use Rattle.wild_base.specs.Numbering.{is_named, number_of}
+use Rattle.wild_names.specs.InputFlags.{is_exclude}
+use Rattle.wild_numbering.specs.Numbering.{is_named, number_of}
 use Rattle.wild_script.specs.declared.tree.LinkerScript.{LinkerScript}
 use Rattle.wild_script.specs.declared.tree.Section.{Section}
 use Rattle.wild_plan_spec.specs.declared.chunk.Kept.{Kept}

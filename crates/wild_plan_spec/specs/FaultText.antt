@@ -1,8 +1,8 @@
 -- How faults are printed.
 use Rattle.std.specs.Prelude.{ℕ, List, [], ◌∷◌, ◌++◌, codes, decimal}
-use Rattle.wild_base.specs.Fault.{number_of}
-use Rattle.wild_base.specs.declared.fault.Fault.{Fault}
-use Rattle.wild_base.specs.declared.fault.Fault.TheVariants as fault
+use Rattle.wild_names.specs.Fault.{number_of}
+use Rattle.wild_names.specs.declared.fault.Fault.{Fault}
+use Rattle.wild_names.specs.declared.fault.Fault.TheVariants as fault
 use Rattle.wild_plan_spec.specs.Text.{field, printed_name}
 
 unfoldable pub variant_name : Fault → List ℕ

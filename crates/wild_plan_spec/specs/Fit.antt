@@ -1,6 +1,6 @@
 -- Which plan fits a script and its table, and which fault stands there instead.
 use Rattle.std.specs.Prelude.{◌≡◌, ◌⊎◌, List, Some, None, Ok, Err, length}
-use Rattle.wild_base.specs.declared.fault.Fault.{Fault}
+use Rattle.wild_names.specs.declared.fault.Fault.{Fault}
 use Rattle.wild_script.specs.Tree.{Bytes, tree, IsParseFault}
 use Rattle.wild_script.specs.declared.tree.LinkerScript.{LinkerScript}
 use Rattle.wild_plan_spec.specs.declared.chunk.Chunk.{Chunk}

@@ -1,8 +1,8 @@
 -- What a plan lists.
 use Rattle.std.specs.Prelude.{ℕ, ◌+◌, ◌-◌, ◌%◌, ◌^◌, true, false, List, [], ◌∷◌, ◌++◌, Option, Some, None, if◌then◌else◌}
 use Rattle.std.specs.List.{list_any}
-use Rattle.wild_base.specs.InputFlags.{is_write, is_exec}
-use Rattle.wild_base.specs.declared.input_flags.InputFlags.{InputFlags}
+use Rattle.wild_names.specs.InputFlags.{is_write, is_exec}
+use Rattle.wild_names.specs.declared.input_flags.InputFlags.{InputFlags}
 use Rattle.wild_script.specs.declared.tree.LinkerScript.{LinkerScript}
 use Rattle.wild_plan_spec.specs.declared.chunk.Chunk.{Chunk}
 use Rattle.wild_plan_spec.specs.declared.chunk.Kept.{Kept}

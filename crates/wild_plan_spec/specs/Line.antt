@@ -1,8 +1,8 @@
 -- What each place of a script does to what stands before it.
 use Rattle.std.specs.Prelude.{ℕ, zero, suc, ◌^◌, ◌&&◌, Bool, nat_lt, if◌then◌else◌, List, [], ◌∷◌, ◌++◌, Option, Some, None, Result, Ok, Err}
-use Rattle.wild_base.specs.Alignment.{rounded_up}
-use Rattle.wild_base.specs.declared.fault.Fault.{Fault}
-use Rattle.wild_base.specs.declared.fault.Fault.TheVariants.{AlignOverflow, Overlap}
+use Rattle.wild_ids.specs.Alignment.{rounded_up}
+use Rattle.wild_names.specs.declared.fault.Fault.{Fault}
+use Rattle.wild_names.specs.declared.fault.Fault.TheVariants.{AlignOverflow, Overlap}
 use Rattle.wild_expression_tree.specs.declared.tree.Expression.{Expression}
 use Rattle.wild_value_spec.specs.Answer.{◌>>=◌}
 use Rattle.wild_value_spec.specs.Known.{Known, Start, Load, End, Address, Dot, nothing, number_at, with_entry}

@@ -1,7 +1,7 @@
 -- What a script and its table say of sections and symbols.
 use Rattle.std.specs.Prelude.{ℕ, ◌+◌, List, [], ◌∷◌, Option, Some, None, slice_get}
 use Rattle.std.specs.Option.{unwrap_or}
-use Rattle.wild_base.specs.Numbering.{number_of}
+use Rattle.wild_numbering.specs.Numbering.{number_of}
 use Rattle.wild_script.specs.Tree.{Bytes}
 use Rattle.wild_script.specs.declared.tree.LinkerScript.{LinkerScript}
 use Rattle.wild_value_spec.specs.Setting.{Setting, line_of}

@@ -1,7 +1,7 @@
 //! What follows from the definitions.
 
 ghost use Rattle.std.specs.Prelude.{◌≡◌, List};
-ghost use Rattle.wild_base.specs.declared.fault.Fault.{Fault};
+ghost use Rattle.wild_names.specs.declared.fault.Fault.{Fault};
 ghost use Rattle.wild_script.specs.Tree.{Bytes};
 ghost use Rattle.wild_script.specs.declared.tree.LinkerScript.{LinkerScript};
 ghost use Rattle.wild_plan_spec.specs.declared.chunk.ChunkRow.{ChunkRow};

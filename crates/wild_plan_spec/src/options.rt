@@ -1,7 +1,7 @@
 //! What a plan is made for.
 
 use wild_base::{Architecture, Endianness};
-use wild_sections::OutputKind;
+use wild_output_kind::OutputKind;
 
 /// What a plan is made for.
 #[derive(Clone, Copy, Debug)]

@@ -1,8 +1,8 @@
 -- A gap as far as it was passed.
 use Rattle.std.proofs.Common.{◌≡◌, ℕ, ◌+◌, Bool, true, false, List, [], ◌∷◌, refl, sym, ◌∙◌, subst, if◌then◌else◌}
 use Rattle.std.specs.Prelude.{Option, Some, None, Result, Ok, Err}
-use Rattle.wild_base.specs.declared.fault.Fault.{Fault}
-use Rattle.wild_base.specs.declared.fault.Fault.TheVariants.{Syntax, UnclosedComment}
+use Rattle.wild_names.specs.declared.fault.Fault.{Fault}
+use Rattle.wild_names.specs.declared.fault.Fault.TheVariants.{Syntax, UnclosedComment}
 use Rattle.wild_reading.specs.Place.{Bytes}
 use Rattle.wild_reading.specs.Bytes.{begins, past_white}
 use Rattle.wild_reading.specs.Reader.{yes, no, Until, none, more}

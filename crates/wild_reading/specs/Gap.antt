@@ -1,7 +1,7 @@
 -- Where a gap ends, or what stays open in it.
 use Rattle.std.specs.Prelude.{◌≡◌, ℕ, ◌+◌, ◌≤◌, true, false, length, if◌then◌else◌, Option, Some, None, Result, Ok, Err}
-use Rattle.wild_base.specs.declared.fault.Fault.{Fault}
-use Rattle.wild_base.specs.declared.fault.Fault.TheVariants.{Syntax, UnclosedComment}
+use Rattle.wild_names.specs.declared.fault.Fault.{Fault}
+use Rattle.wild_names.specs.declared.fault.Fault.TheVariants.{Syntax, UnclosedComment}
 use Rattle.wild_reading.specs.Place.{Bytes}
 use Rattle.wild_reading.specs.Bytes.{begins, past_white}
 use Rattle.wild_reading.specs.Lex.{after_line, after_comment, ends_gap}

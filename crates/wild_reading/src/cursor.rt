@@ -12,7 +12,7 @@ use crate::lex;
 use crate::stop::Stop;
 use std::alloc::Global;
 use std::marker::Model;
-use wild_base::Name;
+use wild_names::Name;
 
 /// Bytes that are read from a position on, no deeper than a limit. Contracts see the text, the position in its bytes,
 /// and how much depth is left.

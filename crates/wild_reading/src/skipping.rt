@@ -5,7 +5,7 @@ ghost use Rattle.wild_reading.specs.Gap.{stretch_end, IsGapEnd, IsOpen};
 ghost use Rattle.wild_reading.specs.Lex as lexis;
 
 use crate::lex::{after_close, after_line, begins, begins_comment, ends_gap, past_white};
-use wild_base::Fault;
+use wild_names::Fault;
 
 /// The position behind the comment at a position.
 #[tactic(auto, unfolding(crate::specs::Lex::after_comment))]

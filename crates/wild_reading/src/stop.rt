@@ -5,7 +5,7 @@ ghost use Rattle.wild_reading.specs.Faults.{fault_of};
 ghost use Rattle.wild_reading.specs.declared.stop.Stop.TheVariants as stop;
 
 use std::alloc::{AllocError, AllocFailed};
-use wild_base::{Fault, NoMemory};
+use wild_names::{Fault, NoMemory};
 
 /// Why reading stops. Each position is at most the length of what is read.
 #[derive(Clone, Copy, Debug, PartialEq, Eq)]

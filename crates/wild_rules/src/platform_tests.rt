@@ -198,8 +198,8 @@ struct Asked {
 
 impl Args for Asked {
     ghost use Rattle.std.specs.Prelude.{false, None};
-    ghost use Rattle.wild_base.specs.declared.target.Architecture.TheVariants as arch;
-    ghost use Rattle.wild_base.specs.declared.target.RelocationModel.TheVariants as model;
+    ghost use Rattle.wild_names.specs.declared.target.Architecture.TheVariants as arch;
+    ghost use Rattle.wild_names.specs.declared.target.RelocationModel.TheVariants as model;
 
     ghost architecture = { λ _. arch.X86_64 };
 

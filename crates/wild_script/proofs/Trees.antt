@@ -1,7 +1,7 @@
 -- A script takes all of the bytes.
 use Rattle.std.proofs.Common.{◌≡◌, ◌⊎◌, ℕ, ◌+◌, ◌≤◌, true, length, subst, sym, ◌∙◌, ap, inl, inr, refl, arith}
 use Rattle.std.proofs.lemmas.Bool.{eqb-true}
-use Rattle.wild_base.specs.declared.fault.Fault.TheVariants as fault
+use Rattle.wild_names.specs.declared.fault.Fault.TheVariants as fault
 use Rattle.wild_reading.specs.Place as place
 use Rattle.wild_reading.specs.Place.{Bytes, Text, Place}
 use Rattle.wild_reading.specs.Bytes.{is_end}

@@ -8,7 +8,7 @@ ghost use Rattle.wild_script.specs.Assignment as spec;
 
 use sqlite_items::Boxed;
 use std::alloc::Global;
-use wild_base::{Name, NoMemory};
+use wild_names::{Name, NoMemory};
 use wild_expression::{Expression, Level, Operator, expression, inner_value, node};
 use wild_reading::{Cursor, Stop, begins};
 

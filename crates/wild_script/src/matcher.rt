@@ -7,7 +7,7 @@ ghost use Rattle.wild_script.specs.Matcher as spec;
 use crate::pattern::pattern_list;
 use crate::tree::Matcher;
 use std::alloc::Global;
-use wild_base::{Name, NoMemory};
+use wild_names::{Name, NoMemory};
 use wild_reading::{Cursor, Stop, Token};
 
 #[tactic(auto, unfolding(crate::specs::Matcher::is_every_file))]

@@ -11,7 +11,7 @@ use crate::tree::{Command, Location, SectionCommand, Sections};
 use crate::words::{is_assert, is_provide, is_provide_hidden, is_sections, is_to_come};
 use sqlite_items::Items;
 use std::alloc::Global;
-use wild_base::Name;
+use wild_names::Name;
 use wild_expression::assert_body;
 use wild_reading::{Cursor, Stop, read_until};
 

@@ -1,13 +1,13 @@
 //! Reads scripts.
 
 ghost use Rattle.std.specs.Prelude.{◌≡◌, ◌⊎◌, IfOk, IfErr};
-ghost use Rattle.wild_base.specs.declared.fault.Fault.TheVariants.{NoMemory};
+ghost use Rattle.wild_names.specs.declared.fault.Fault.TheVariants.{NoMemory};
 ghost use Rattle.wild_script.specs.Tree.{IsTree, IsParseFault};
 
 use crate::script::script;
 use crate::tree::LinkerScript;
 use std::alloc::Global;
-use wild_base::Fault;
+use wild_names::Fault;
 use wild_reading::Cursor;
 
 /// How deep a script may be.

@@ -12,7 +12,7 @@ ghost use Rattle.wild_script.specs.Pattern as spec;
 use crate::tree::SectionPattern;
 use sqlite_items::Items;
 use std::alloc::Global;
-use wild_base::Name;
+use wild_names::Name;
 use wild_reading::{Cursor, Grammar, Stop, read_until};
 
 #[tactic(auto, unfolding(wild_reading::specs::Bytes::begins_with))]

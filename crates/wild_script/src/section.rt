@@ -12,7 +12,7 @@ use crate::tree::{Location, Section, SectionCommand, SymbolAssignment};
 use crate::words::{is_assert, is_provide, is_provide_hidden};
 use sqlite_items::Boxed;
 use std::alloc::Global;
-use wild_base::Name;
+use wild_names::Name;
 use wild_expression::assert_body;
 use wild_reading::{Cursor, Grammar, Stop};
 

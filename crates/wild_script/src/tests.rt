@@ -4,7 +4,7 @@ use crate::{
 };
 use std::alloc::{AllocError, Global};
 use std::test::Fail;
-use wild_base::{Fault, Name};
+use wild_names::{Fault, Name};
 
 fn push_name(out: &mut String, name: &Name) -> Result<(), AllocError> {
     for byte in name.bytes() {

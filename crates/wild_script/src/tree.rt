@@ -1,7 +1,7 @@
 //! Linker scripts as trees.
 
 use sqlite_items::{Boxed, Items};
-use wild_base::Name;
+use wild_names::Name;
 use wild_expression::{AssertCommand, Expression};
 
 /// A script: its outermost commands in text order.

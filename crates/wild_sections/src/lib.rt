@@ -1,6 +1,4 @@
 //! Output sections: so far the kinds of what is linked.
 #![tactic(auto)]
 
-mod output_kind;
-
-pub use output_kind::OutputKind;
+pub use wild_output_kind::OutputKind;

@@ -1,7 +1,7 @@
 -- The letters of flags.
 use Rattle.std.specs.Prelude.{ℕ, ◌+◌, Bool, ◌||◌, ◌==◌, nat_lt, if◌then◌else◌, List, Option, Some, None, count_by}
 use Rattle.std.specs.List.{list_all}
-use Rattle.wild_base.specs.declared.input_flags.InputFlags.{InputFlags}
+use Rattle.wild_names.specs.declared.input_flags.InputFlags.{InputFlags}
 
 -- how often a letter stands there
 abbrev pub times : List ℕ → ℕ → ℕ

@@ -7,7 +7,7 @@ ghost use Rattle.wild_table.specs.Table.{entry_of, section_entry, symbol_entry, 
 use crate::{read_flags, read_number};
 use csv::ByteRecord;
 use std::alloc::Global;
-use wild_base::{Name, NoMemory};
+use wild_names::{Name, NoMemory};
 use wild_plan_spec::{InputRow, SymbolRow};
 
 /// What a record writes.

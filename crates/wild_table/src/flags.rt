@@ -4,7 +4,7 @@ ghost use Rattle.std.specs.Prelude.{◌≡◌, ◌==◌, count_by};
 ghost use Rattle.wild_table.specs.Flags.{times, is_letter, flags_of, all_letters, has_twice, bit_of};
 
 use bitflags::Flags;
-use wild_base::InputFlags;
+use wild_names::InputFlags;
 
 /// The flags that letters write, each at most once and in any order: A (ALLOC), W (WRITE), X (EXEC), B (NOBITS),
 /// T (TLS), E (EXCLUDE).

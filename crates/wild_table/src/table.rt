@@ -8,7 +8,7 @@ ghost use Rattle.wild_table.specs.Table.{records, table, table_of, entries_from,
 use crate::entry::{Entry, read_entry};
 use csv::{ByteRecord, ReaderBuilder};
 use std::alloc::{AllocError, Global};
-use wild_base::NoMemory;
+use wild_names::NoMemory;
 use wild_plan_spec::{InputRows, InputTable, SymbolRows};
 
 /// Why a text is no table.

@@ -2,7 +2,7 @@ use crate::{TableFault, read_flags, read_number, read_table};
 use bitflags::Flags;
 use std::alloc::Global;
 use std::test::Fail;
-use wild_base::{InputFlags, NoMemory};
+use wild_names::{InputFlags, NoMemory};
 
 #[test]
 fn numbers(rt: HostRuntime) -> Result<(), Fail> {

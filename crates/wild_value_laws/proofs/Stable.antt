@@ -1,7 +1,7 @@
 -- Each step of a value stays when more is known.
 use Rattle.std.proofs.Common.{◌≡◌, ℕ, zero, suc, Bool, true, false, not, ◌||◌, ◌==◌, cond, List, ◌∷◌, Option, Some, None, Result, Ok, Err, refl, inl, inr, ap, sym, subst}
-use Rattle.wild_base.specs.declared.fault.Fault.{Fault}
-use Rattle.wild_base.specs.declared.fault.Fault.TheVariants.{NotLaidOut, AlignZero, SymbolCycle}
+use Rattle.wild_names.specs.declared.fault.Fault.{Fault}
+use Rattle.wild_names.specs.declared.fault.Fault.TheVariants.{NotLaidOut, AlignZero, SymbolCycle}
 use Rattle.wild_expression_tree.specs.declared.tree.AssertCommand.{AssertCommand}
 use Rattle.wild_expression_tree.specs.declared.tree.Expression.{Expression, out-Expression}
 use Rattle.wild_expression_tree.specs.declared.tree.Expression.TheOpen.{Expression-F}

@@ -1,7 +1,7 @@
 -- Answers that stay when more is known.
 use Rattle.std.specs.Prelude.{◌≡◌, ◌⊎◌, Result, Ok, Err}
-use Rattle.wild_base.specs.declared.fault.Fault.{Fault}
-use Rattle.wild_base.specs.declared.fault.Fault.TheVariants.{NotLaidOut}
+use Rattle.wild_names.specs.declared.fault.Fault.{Fault}
+use Rattle.wild_names.specs.declared.fault.Fault.TheVariants.{NotLaidOut}
 
 -- it asks for what is not laid out yet
 abbrev pub IsEarlyFault : Fault → Type 0

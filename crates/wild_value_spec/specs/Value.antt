@@ -2,10 +2,10 @@
 use Rattle.std.specs.Prelude.{ℕ, zero, suc, ◌+◌, ◌-◌, ◌^◌, Bool, ◌||◌, not, ◌==◌, nat_lt, if◌then◌else◌, codes, List, [], ◌∷◌, Option, Some, None, Result, Ok, Err}
 use Rattle.std.specs.List.{list_any}
 use Rattle.std.specs.Option.{is_some}
-use Rattle.wild_base.specs.Numbering.{is_named}
-use Rattle.wild_base.specs.Alignment.{rounded_up}
-use Rattle.wild_base.specs.declared.fault.Fault.{Fault}
-use Rattle.wild_base.specs.declared.fault.Fault.TheVariants.{DivisionByZero, ModuloByZero, AlignZero, UnknownSection, UnknownSymbol, NotLaidOut, SymbolCycle, DeepValue, BeforeSection, Overflow, AlignOverflow, AssertFailed, Unsupported}
+use Rattle.wild_numbering.specs.Numbering.{is_named}
+use Rattle.wild_ids.specs.Alignment.{rounded_up}
+use Rattle.wild_names.specs.declared.fault.Fault.{Fault}
+use Rattle.wild_names.specs.declared.fault.Fault.TheVariants.{DivisionByZero, ModuloByZero, AlignZero, UnknownSection, UnknownSymbol, NotLaidOut, SymbolCycle, DeepValue, BeforeSection, Overflow, AlignOverflow, AssertFailed, Unsupported}
 use Rattle.wild_expression_tree.specs.declared.tree.AssertCommand.{AssertCommand}
 use Rattle.wild_expression_tree.specs.declared.tree.Expression.{Expression, out-Expression}
 use Rattle.wild_expression_tree.specs.declared.tree.Expression.TheOpen.{Expression-F}

@@ -1,5 +1,5 @@
 use Rattle.std.proofs.Common.{◌≡◌, ◌++◌, [], drop}
-use Rattle.wild_base.specs.declared.fault.Fault.TheVariants.{DuplicateSection}
+use Rattle.wild_names.specs.declared.fault.Fault.TheVariants.{DuplicateSection}
 use Rattle.wild_plan_spec.specs.Checks.{name_checks, failing}
 use Rattle.wild_plan_spec.specs.Fates.{names_of}
 use Rattle.wild_fates.specs.Pointed.{pointed}

@@ -1,5 +1,5 @@
 use Rattle.std.proofs.Common.{◌≡◌, ◌++◌, [], drop}
-use Rattle.wild_base.specs.declared.fault.Fault.TheVariants.{DuplicateSymbol}
+use Rattle.wild_names.specs.declared.fault.Fault.TheVariants.{DuplicateSymbol}
 use Rattle.wild_plan_spec.specs.Checks.{name_checks, failing}
 use Rattle.wild_plan_spec.specs.Definitions.{entry_names}
 use Rattle.wild_plan.specs.Entries.{shown_entries}

@@ -1,5 +1,0 @@
-use Rattle.wild_base.proofs.Multiples.{is_rounded_down}
-use Rattle.wild_base.proofs.alignment.Alignment.align_down.Goals as goal
-
-pub returns-clause-greatest : goal.returns-clause-greatest
-returns-clause-greatest c = is_rounded_down c.args.self c.args.value _ (cc)

@@ -1,4 +1,0 @@
-use Rattle.wild_base.proofs.id_tests.steps_of_a_ledger.Given as goal
-
-abbrev pub ghosts-counted : goal.ghosts-counted
-ghosts-counted a = record { name = a.blank.name; parts = a.blank.parts }

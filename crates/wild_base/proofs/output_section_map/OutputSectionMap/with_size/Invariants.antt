@@ -1,6 +1,0 @@
-use Rattle.std.proofs.Common.{◌≡◌, length}
-use Rattle.std.specs.List.{All}
-use Rattle.wild_base.proofs.output_section_map.OutputSectionMap.with_size.Given as goal
-
-abbrev pub invariant-loop : goal.invariant-loop
-invariant-loop g l = (length l.values.items ≡ l.counter) × All g.T.Default.is_default l.values.items

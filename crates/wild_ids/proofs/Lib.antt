@@ -1,0 +1,5 @@
+pub mod Changed
+pub mod Exponents
+pub mod Mapped
+pub mod Multiples
+pub mod Numbers

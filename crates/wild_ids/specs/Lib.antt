@@ -1,0 +1,5 @@
+pub mod Alignment
+pub mod Calls
+pub mod CommonSections
+pub mod Entries
+pub mod Parts

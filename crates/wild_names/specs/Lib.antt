@@ -1,0 +1,4 @@
+pub mod Fault
+pub mod InputFlags
+pub mod SegmentNames
+pub mod Target
