@@ -1,13 +1,12 @@
 -- Chains are lists grouped to the left.
-use Rattle.std.proofs.Common.{◌≡◌, ℕ, ◌+◌, List, [], ◌∷◌, refl, subst, sym, true, false}
-use Rattle.std.specs.Prelude.{◌↔◌}
+use Rattle.std.proofs.Common.{◌≡◌, ℕ, List, [], ◌∷◌, refl, subst, sym, true, false}
 use Rattle.wild_reading.specs.Place.{Bytes}
-use Rattle.wild_reading.specs.Family.{Fold, done, next, Folds, room}
+use Rattle.wild_reading.specs.Family.{Fold, done, next, room}
 use Rattle.wild_expression_words.specs.declared.operators.Level.{Level}
 use Rattle.wild_expression_words.specs.declared.operators.Level.TheVariants as l
 use Rattle.wild_expression.specs.declared.measured.Measured.{Measured}
-use Rattle.wild_expression_words.specs.Operators.{operand, operator, ends, is_chain}
-use Rattle.wild_expression.specs.Grammar.{joined, value, value_of, inner_value, layer, layer_of, rest, rest_of, chain, chain_of, step, step_of, product_of, sum_of, shift_of, bitwise_and_of, bitwise_xor_of, bitwise_or_of, compared_of, logical_and_of, logical_or_of, whole_of}
+use Rattle.wild_expression_words.specs.Operators.{operand, ends, is_chain}
+use Rattle.wild_expression.specs.Grammar.{joined, value, value_of, inner_value, layer_of, rest_of, chain, chain_of, step, step_of, product_of, sum_of, shift_of, bitwise_and_of, bitwise_xor_of, bitwise_or_of, compared_of, logical_and_of, logical_or_of, whole_of}
 use Rattle.wild_expression.specs.Chains.{Link, grouped, Stands, Links, IsChain, ChainsAreLists}
 
 module _ (level : Level) (b : Bytes) (limit : ℕ) where

@@ -3,3 +3,6 @@ pub mod Levels
 pub mod Places
 pub mod Shorter
 pub mod ChainLists
+pub mod Free
+pub mod Deep
+pub mod Depths

@@ -1,13 +1,13 @@
 -- The grammar of expressions, and how deep each is.
-use Rattle.std.specs.Prelude.{ℕ, ◌+◌, ◌≤◌, max, if◌then◌else◌, List, Some, None, codes}
-use Rattle.std.specs.Str.{bytes_eq}
+use Rattle.std.specs.Prelude.{ℕ, ◌+◌, ◌≤◌, max, List, Some, None}
 use Rattle.wild_reading.specs.Place.{Place, IsPaid}
 use Rattle.wild_reading.specs.Bytes.{begins}
 use Rattle.wild_reading.specs.Reader.{Reader, ◌>>=◌, ◌>>◌, Give, here, Takes, Choice}
-use Rattle.wild_reading.specs.Lex.{white, byte, gap, symbol, name}
+use Rattle.wild_reading.specs.Lex.{byte, gap, symbol, name}
 use Rattle.wild_reading.specs.Family.{InsideAt, room, Folds}
 use Rattle.wild_expression_words.specs.Quotes.{quoted_name_at}
 use Rattle.wild_expression_words.specs.Operators.{operand, operator, ends, node, sign, is_signed, signed_node}
+use Rattle.wild_expression_words.specs.Dialect.{Dialect, first_grammar}
 use Rattle.wild_expression_words.specs.Words.{identifier, head}
 use Rattle.wild_expression_tree.specs.declared.tree.Expression.{Expression}
 use Rattle.wild_expression_tree.specs.declared.tree.Expression.TheVariants as e
@@ -85,78 +85,78 @@ abbrev pub Values : Type 1
 Values = Level → Reader Measured
 
 -- a bracket and the white behind it
-unfoldable pub close : Reader (Unit {0})
-close = do
+unfoldable pub close : Dialect → Reader (Unit {0})
+close dialect = do
   byte 41
-  white
+  dialect.between
 
 -- an identifier in brackets
-unfoldable pub question : Question → Reader Measured
-question asks = do
+unfoldable pub question : Dialect → Question → Reader Measured
+question dialect asks = do
   byte 40
   room 0
-  white
+  dialect.between
   w ← identifier
-  white
-  close
+  dialect.between
+  close dialect
   Give (asked asks w)
 
 -- an expression in brackets
-unfoldable pub brackets_of : Values → Reader Measured
-brackets_of inner = do
+unfoldable pub brackets_of : Dialect → Values → Reader Measured
+brackets_of dialect inner = do
   byte 40
   x ← inner l.Ternary
-  close
+  close dialect
   Give (bracketed x)
 
 -- two, with a comma
-unfoldable pub pair_of : Values → Extreme → Reader Measured
-pair_of inner extreme = do
+unfoldable pub pair_of : Dialect → Values → Extreme → Reader Measured
+pair_of dialect inner extreme = do
   byte 40
   x ← inner l.Ternary
   byte 44
   y ← inner l.Ternary
-  close
+  close dialect
   Give (paired extreme x y)
 
-unfoldable pub align_counter : Measured → Reader Measured
-align_counter x = do
-  close
+unfoldable pub align_counter : Dialect → Measured → Reader Measured
+align_counter dialect x = do
+  close dialect
   Give (aligned_counter x)
 
-unfoldable pub align_value_of : Values → Measured → Reader Measured
-align_value_of inner x = do
+unfoldable pub align_value_of : Dialect → Values → Measured → Reader Measured
+align_value_of dialect inner x = do
   byte 44
   y ← inner l.Ternary
-  close
+  close dialect
   Give (aligned_value x y)
 
-unfoldable pub align_rest_of : Values → Measured → Reader Measured
-align_rest_of inner x = Choice (begins 44) (align_value_of inner x) (align_counter x)
+unfoldable pub align_rest_of : Dialect → Values → Measured → Reader Measured
+align_rest_of dialect inner x = Choice (begins 44) (align_value_of dialect inner x) (align_counter dialect x)
 
 -- an alignment, or a value, a comma and an alignment
-unfoldable pub align_of : Values → Reader Measured
-align_of inner = do
+unfoldable pub align_of : Dialect → Values → Reader Measured
+align_of dialect inner = do
   byte 40
   x ← inner l.Ternary
-  align_rest_of inner x
+  align_rest_of dialect inner x
 
 unfoldable pub segment_word : Reader (List ℕ)
 segment_word = Takes quoted_name_at
 
 -- a quoted name, a comma and an expression
-unfoldable pub segment_start_of : Values → Reader Measured
-segment_start_of inner = do
+unfoldable pub segment_start_of : Dialect → Values → Reader Measured
+segment_start_of dialect inner = do
   byte 40
-  white
+  dialect.between
   w ← segment_word
-  white
+  dialect.between
   byte 44
   x ← inner l.Ternary
-  close
+  close dialect
   Give (started w x)
 
--- an expression, a comma and a message, between gaps
+-- an expression, a comma and a message, dialect gaps
 unfoldable pub assert_of : Values → Reader Measured
 assert_of inner = do
   at ← here
@@ -168,29 +168,29 @@ assert_of inner = do
   symbol 41
   Give (asserted at x message)
 
-abbrev pub call_of : Values → Call → Reader Measured
-call_of inner c.Brackets = brackets_of inner
-call_of inner (c.Name asks) = question asks
-call_of inner c.Align = align_of inner
-call_of inner (c.Pair extreme) = pair_of inner extreme
-call_of inner c.SegmentStart = segment_start_of inner
-call_of inner c.Assert = assert_of inner
+abbrev pub call_of : Dialect → Values → Call → Reader Measured
+call_of dialect inner c.Brackets = brackets_of dialect inner
+call_of dialect inner (c.Name asks) = question dialect asks
+call_of dialect inner c.Align = align_of dialect inner
+call_of dialect inner (c.Pair extreme) = pair_of dialect inner extreme
+call_of dialect inner c.SegmentStart = segment_start_of dialect inner
+call_of dialect inner c.Assert = assert_of inner
 
-unfoldable pub arguments_of : Values → Call → Reader Measured
-arguments_of inner call = call_of inner call
+unfoldable pub arguments_of : Dialect → Values → Call → Reader Measured
+arguments_of dialect inner call = call_of dialect inner call
 
-abbrev pub headed_of : Values → Head → Reader Measured
-headed_of inner (h.Whole x) = Give (lone x)
-headed_of inner (h.Before call) = arguments_of inner call
+abbrev pub headed_of : Dialect → Values → Head → Reader Measured
+headed_of dialect inner (h.Whole x) = Give (lone x)
+headed_of dialect inner (h.Before call) = arguments_of dialect inner call
 
-unfoldable pub behind_of : Values → Head → Reader Measured
-behind_of inner begin = headed_of inner begin
+unfoldable pub behind_of : Dialect → Values → Head → Reader Measured
+behind_of dialect inner begin = headed_of dialect inner begin
 
 -- what has no operator
-unfoldable pub primary_of : Values → Reader Measured
-primary_of inner = do
-  begin ← head
-  behind_of inner begin
+unfoldable pub primary_of : Dialect → Values → Reader Measured
+primary_of dialect inner = do
+  begin ← head dialect
+  behind_of dialect inner begin
 
 -- ---- signs
 
@@ -200,14 +200,14 @@ signed_of inner = do
   x ← inner l.Sign
   Give (signed_by s x)
 
-unfoldable pub signed_or_primary_of : Values → Reader Measured
-signed_or_primary_of inner = Choice is_signed (signed_of inner) (primary_of inner)
+unfoldable pub signed_or_primary_of : Dialect → Values → Reader Measured
+signed_or_primary_of dialect inner = Choice is_signed (signed_of inner) (primary_of dialect inner)
 
 -- signs, as many as there are, and what has no operator
-unfoldable pub sign_of : Values → Reader Measured
-sign_of inner = do
-  white
-  signed_or_primary_of inner
+unfoldable pub sign_of : Dialect → Values → Reader Measured
+sign_of dialect inner = do
+  dialect.between
+  signed_or_primary_of dialect inner
 
 -- ---- operators
 
@@ -267,96 +267,96 @@ layer_of inner level first = do
   x ← first
   rest_of inner level x
 
-unfoldable pub product_of : Values → Reader Measured
-product_of inner = layer_of inner l.Product (sign_of inner)
+unfoldable pub product_of : Dialect → Values → Reader Measured
+product_of dialect inner = layer_of inner l.Product (sign_of dialect inner)
 
-unfoldable pub sum_of : Values → Reader Measured
-sum_of inner = layer_of inner l.Sum (product_of inner)
+unfoldable pub sum_of : Dialect → Values → Reader Measured
+sum_of dialect inner = layer_of inner l.Sum (product_of dialect inner)
 
-unfoldable pub shift_of : Values → Reader Measured
-shift_of inner = layer_of inner l.Shift (sum_of inner)
+unfoldable pub shift_of : Dialect → Values → Reader Measured
+shift_of dialect inner = layer_of inner l.Shift (sum_of dialect inner)
 
-unfoldable pub bitwise_and_of : Values → Reader Measured
-bitwise_and_of inner = layer_of inner l.BitwiseAnd (shift_of inner)
+unfoldable pub bitwise_and_of : Dialect → Values → Reader Measured
+bitwise_and_of dialect inner = layer_of inner l.BitwiseAnd (shift_of dialect inner)
 
-unfoldable pub bitwise_xor_of : Values → Reader Measured
-bitwise_xor_of inner = layer_of inner l.BitwiseXor (bitwise_and_of inner)
+unfoldable pub bitwise_xor_of : Dialect → Values → Reader Measured
+bitwise_xor_of dialect inner = layer_of inner l.BitwiseXor (bitwise_and_of dialect inner)
 
-unfoldable pub bitwise_or_of : Values → Reader Measured
-bitwise_or_of inner = layer_of inner l.BitwiseOr (bitwise_xor_of inner)
+unfoldable pub bitwise_or_of : Dialect → Values → Reader Measured
+bitwise_or_of dialect inner = layer_of inner l.BitwiseOr (bitwise_xor_of dialect inner)
 
-unfoldable pub compared_of : Values → Reader Measured
-compared_of inner = layer_of inner l.Comparison (bitwise_or_of inner)
+unfoldable pub compared_of : Dialect → Values → Reader Measured
+compared_of dialect inner = layer_of inner l.Comparison (bitwise_or_of dialect inner)
 
-unfoldable pub logical_and_of : Values → Reader Measured
-logical_and_of inner = layer_of inner l.LogicalAnd (compared_of inner)
+unfoldable pub logical_and_of : Dialect → Values → Reader Measured
+logical_and_of dialect inner = layer_of inner l.LogicalAnd (compared_of dialect inner)
 
-unfoldable pub logical_or_of : Values → Reader Measured
-logical_or_of inner = layer_of inner l.LogicalOr (logical_and_of inner)
+unfoldable pub logical_or_of : Dialect → Values → Reader Measured
+logical_or_of dialect inner = layer_of inner l.LogicalOr (logical_and_of dialect inner)
 
-unfoldable pub whole_of : Values → Reader Measured
-whole_of inner = layer_of inner l.Ternary (logical_or_of inner)
+unfoldable pub whole_of : Dialect → Values → Reader Measured
+whole_of dialect inner = layer_of inner l.Ternary (logical_or_of dialect inner)
 
-unfoldable pub value_of : Values → Level → Reader Measured
-value_of inner l.Ternary = whole_of inner
-value_of inner l.LogicalOr = logical_or_of inner
-value_of inner l.LogicalAnd = logical_and_of inner
-value_of inner l.Comparison = compared_of inner
-value_of inner l.BitwiseOr = bitwise_or_of inner
-value_of inner l.BitwiseXor = bitwise_xor_of inner
-value_of inner l.BitwiseAnd = bitwise_and_of inner
-value_of inner l.Shift = shift_of inner
-value_of inner l.Sum = sum_of inner
-value_of inner l.Product = product_of inner
-value_of inner l.Sign = sign_of inner
+unfoldable pub value_of : Dialect → Values → Level → Reader Measured
+value_of dialect inner l.Ternary = whole_of dialect inner
+value_of dialect inner l.LogicalOr = logical_or_of dialect inner
+value_of dialect inner l.LogicalAnd = logical_and_of dialect inner
+value_of dialect inner l.Comparison = compared_of dialect inner
+value_of dialect inner l.BitwiseOr = bitwise_or_of dialect inner
+value_of dialect inner l.BitwiseXor = bitwise_xor_of dialect inner
+value_of dialect inner l.BitwiseAnd = bitwise_and_of dialect inner
+value_of dialect inner l.Shift = shift_of dialect inner
+value_of dialect inner l.Sum = sum_of dialect inner
+value_of dialect inner l.Product = product_of dialect inner
+value_of dialect inner l.Sign = sign_of dialect inner
 
 -- ---- the knot: what is read one deeper is read in the same way
 
 unfoldable pub inner_value : Values
-inner_value level = InsideAt value_of level
+inner_value level = InsideAt (value_of first_grammar) level
 
 -- an expression of a level
 unfoldable pub value : Values
-value level = value_of (InsideAt value_of) level
+value level = value_of first_grammar (InsideAt (value_of first_grammar)) level
 
 unfoldable pub brackets : Reader Measured
-brackets = brackets_of inner_value
+brackets = brackets_of first_grammar inner_value
 
 unfoldable pub pair : Extreme → Reader Measured
-pair extreme = pair_of inner_value extreme
+pair extreme = pair_of first_grammar inner_value extreme
 
 unfoldable pub align_value : Measured → Reader Measured
-align_value x = align_value_of inner_value x
+align_value x = align_value_of first_grammar inner_value x
 
 unfoldable pub align_rest : Measured → Reader Measured
-align_rest x = align_rest_of inner_value x
+align_rest x = align_rest_of first_grammar inner_value x
 
 unfoldable pub align : Reader Measured
-align = align_of inner_value
+align = align_of first_grammar inner_value
 
 unfoldable pub segment_start : Reader Measured
-segment_start = segment_start_of inner_value
+segment_start = segment_start_of first_grammar inner_value
 
 unfoldable pub assert : Reader Measured
 assert = assert_of inner_value
 
 unfoldable pub arguments : Call → Reader Measured
-arguments call = arguments_of inner_value call
+arguments call = arguments_of first_grammar inner_value call
 
 unfoldable pub behind : Head → Reader Measured
-behind begin = behind_of inner_value begin
+behind begin = behind_of first_grammar inner_value begin
 
 unfoldable pub primary : Reader Measured
-primary = primary_of inner_value
+primary = primary_of first_grammar inner_value
 
 unfoldable pub signed : Reader Measured
 signed = signed_of inner_value
 
 unfoldable pub signed_or_primary : Reader Measured
-signed_or_primary = signed_or_primary_of inner_value
+signed_or_primary = signed_or_primary_of first_grammar inner_value
 
 unfoldable pub sign_level : Reader Measured
-sign_level = sign_of inner_value
+sign_level = sign_of first_grammar inner_value
 
 unfoldable pub step : Level → Measured → Reader Measured
 step level x = step_of inner_value level x

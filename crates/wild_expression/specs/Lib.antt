@@ -2,3 +2,4 @@ pub mod Grammar
 pub mod Readings
 pub mod Parts
 pub mod Chains
+pub mod Depths

@@ -1,5 +1,4 @@
 -- Parts of statements that are made of expressions.
-use Rattle.std.specs.Prelude.{ℕ}
 use Rattle.wild_reading.specs.Reader.{Reader, ◌>>=◌, ◌>>◌, Give, here}
 use Rattle.wild_reading.specs.Lex.{gap, symbol, name}
 use Rattle.wild_expression_tree.specs.declared.tree.AssertCommand.{AssertCommand}

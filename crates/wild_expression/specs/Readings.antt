@@ -8,24 +8,28 @@ use Rattle.wild_reading.specs.declared.stop.Stop.{Stop}
 use Rattle.wild_reading.specs.declared.stop.Stop.TheVariants as stop
 use Rattle.wild_expression_tree.specs.declared.tree.Expression.{Expression}
 use Rattle.wild_expression_words.specs.declared.operators.Level.TheVariants.{Ternary}
-use Rattle.wild_expression.specs.Grammar.{value}
+use Rattle.wild_expression.specs.Depths.{IsRead}
 
--- from one position to the other the bytes are read as this expression, within that depth
-unfoldable pub reads_within : ℕ → Bytes → ℕ → Expression → ℕ → Type 0
-reads_within limit b i x j = (depth : ℕ) × value Ternary b limit i (record { expression = x; depth = depth }) j
+-- from one position to the other the bytes are read as this expression, of that depth
+unfoldable pub is_read : Bytes → ℕ → Expression → ℕ → ℕ → Type 0
+is_read b i x depth j = IsRead Ternary b i (record { expression = x; depth = depth }) j
 
--- they are, and nothing else is read from there, of whatever depth
+-- they are, it is no deeper than 256, and nothing else is read from there, of whatever depth
 pub record IsExpression (b : Bytes) (i : ℕ) (x : Expression) (j : ℕ) : Type 0 where
-  pub is : reads_within 256 b i x j
-  pub only : (limit : ℕ) (y : Expression) (k : ℕ) → reads_within limit b i y k → (y ≡ x) × (k ≡ j)
+  pub depth : ℕ
+  pub is : is_read b i x depth j
+  pub deep : depth ≤ 256
+  pub only : (y : Expression) (d k : ℕ) → is_read b i y d k → (y ≡ x) × (d ≡ depth) × (k ≡ j)
   pub forward : i < j
   pub within : j ≤ length b
 
-abbrev pub HasNone : ℕ → Bytes → ℕ → Type 0
-HasNone limit b i = (x : Expression) (j : ℕ) → reads_within limit b i x j → ⊥
-
+-- nothing is read, of whatever depth
 abbrev pub Never : Bytes → ℕ → Type 0
-Never b i = (limit : ℕ) → HasNone limit b i
+Never b i = (x : Expression) (d j : ℕ) → is_read b i x d j → ⊥
+
+-- nothing of depth at most 256 is
+abbrev pub HasNone : Bytes → ℕ → Type 0
+HasNone b i = (x : Expression) (d j : ℕ) → is_read b i x d j → 256 < d
 
 -- the fault that tells why reading stopped; no sort stands in an expression
 abbrev pub plain_fault : Stop → Fault
@@ -39,5 +43,5 @@ plain_fault stop.NoMemory = NoMemory
 abbrev pub IsRefusal : Bytes → ℕ → Fault → Type 0
 IsRefusal b i (Syntax position) = Never b i × (position ≤ length b)
 IsRefusal b i (UnclosedComment position) = Never b i × IsOpenComment b position
-IsRefusal b i (TooDeep position) = HasNone 256 b i × IsTooDeep (record { bytes = b; start = i; limit = 256 }) position
+IsRefusal b i (TooDeep position) = HasNone b i × IsTooDeep (record { bytes = b; start = i; limit = 256 }) position
 IsRefusal b i f = ⊥

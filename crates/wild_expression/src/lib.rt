@@ -7,7 +7,7 @@ mod parts;
 mod readings;
 mod values;
 
-pub use laws::chains_are_lists;
+pub use laws::{chains_are_lists, depths_are_budgets};
 pub use measured::Measured;
 pub use parts::{assert_body, expression};
 pub use readings::parse_expression;

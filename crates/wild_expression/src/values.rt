@@ -2,6 +2,7 @@
 
 ghost use Rattle.std.specs.Prelude.{◌≡◌, ◌≤◌, ◌<◌, ◌+◌, ◌^◌, true, IfOk, OnOk};
 ghost use Rattle.wild_reading.specs.Place.{ahead, IsMarked, IsPaid};
+ghost use Rattle.wild_expression_words.specs.Dialect.{first_grammar};
 ghost use Rattle.wild_reading.specs.Only.{Answers};
 ghost use Rattle.wild_expression.specs.Grammar as spec;
 ghost use Rattle.wild_expression.specs.Grammar.{IsCovered};
@@ -21,7 +22,7 @@ use wild_reading::{Cursor, Stop};
 
 #[tactic(auto, using(wild_reading::proofs::Readers::reading), unfolding(crate::specs::Grammar::close))]
 fn close(cursor: &mut Cursor<'_>) -> Result<(), Stop>
-    ensures { Answers spec.close cursor.old cursor.new result }
+    ensures { Answers (spec.close first_grammar) cursor.old cursor.new result }
 {
     cursor.byte(b')')?;
     cursor.white()?;
@@ -37,7 +38,7 @@ fn segment<'a>(cursor: &mut Cursor<'a>) -> Result<Piece<'a>, Stop>
 
 #[tactic(auto, using(wild_reading::proofs::Readers::reading, crate::proofs::Weights::weights), unfolding(crate::specs::Grammar::question))]
 fn ask_name(cursor: &mut Cursor<'_>, alloc: Global, asks: Question) -> Result<Measured, Stop>
-    ensures read { Answers (spec.question asks) cursor.old cursor.new result }
+    ensures read { Answers (spec.question first_grammar asks) cursor.old cursor.new result }
     ensures deep { IfOk result (λ x. x.depth ≤ cursor.old.left) }
     ensures paid { IfOk result (λ x. IsCovered x.depth cursor.new) }
     ensures shorter { OnOk result (ahead cursor.new < ahead cursor.old) }
@@ -123,7 +124,7 @@ fn align_close(
     requires deep { alignment.depth < cursor.old.left }
     requires fits { alignment.depth + 1 < 2 ^ 32 }
     requires paid { IsPaid (alignment.depth + 1) cursor.old }
-    ensures read { Answers (spec.align_counter alignment) cursor.old cursor.new result }
+    ensures read { Answers (spec.align_counter first_grammar alignment) cursor.old cursor.new result }
     ensures deep { IfOk result (λ x. x.depth ≤ cursor.old.left) }
     ensures paid { IfOk result (λ x. IsCovered x.depth cursor.new) }
 {
@@ -218,6 +219,7 @@ fn assertion(cursor: &mut Cursor<'_>, alloc: Global) -> Result<Measured, Stop>
 }
 
 #[cycle(values)]
+#[tactic(auto, unfolding(crate::specs::Grammar::arguments, crate::specs::Grammar::arguments_of, crate::specs::Grammar::brackets, crate::specs::Grammar::align, crate::specs::Grammar::pair, crate::specs::Grammar::segment_start, crate::specs::Grammar::assert))]
 fn arguments(cursor: &mut Cursor<'_>, alloc: Global, call: Call) -> Result<Measured, Stop>
     ensures read { Answers (spec.arguments call) cursor.old cursor.new result }
     ensures deep { IfOk result (λ x. x.depth ≤ cursor.old.left) }
@@ -235,7 +237,7 @@ fn arguments(cursor: &mut Cursor<'_>, alloc: Global, call: Call) -> Result<Measu
 }
 
 #[cycle(values)]
-#[tactic(auto, using(crate::proofs::Weights::weights))]
+#[tactic(auto, using(wild_reading::proofs::Readers::reading, crate::proofs::Weights::weights), unfolding(crate::specs::Grammar::behind, crate::specs::Grammar::behind_of, crate::specs::Grammar::arguments))]
 fn behind(cursor: &mut Cursor<'_>, alloc: Global, head: Head) -> Result<Measured, Stop>
     ensures read { Answers (spec.behind head) cursor.old cursor.new result }
     ensures deep { IfOk result (λ x. x.depth ≤ cursor.old.left) }

@@ -1,3 +1,4 @@
+pub mod Dialect
 pub mod Identifier
 pub mod Literal
 pub mod Quotes

@@ -3,7 +3,7 @@ use Rattle.std.specs.Prelude.{ℕ, Bool, if◌then◌else◌, List, Option, Some
 use Rattle.std.specs.Str.{bytes_eq}
 use Rattle.wild_reading.specs.Bytes.{begins}
 use Rattle.wild_reading.specs.Reader.{Reader, ◌>>=◌, ◌>>◌, Give, Nothing, Takes, Choice, If}
-use Rattle.wild_reading.specs.Lex.{white}
+use Rattle.wild_expression_words.specs.Dialect.{Dialect}
 use Rattle.wild_expression_words.specs.Identifier.{identifier_at, begins_digit}
 use Rattle.wild_expression_words.specs.Literal.{literal_at}
 use Rattle.wild_expression_tree.specs.declared.tree.Expression.{Expression}
@@ -21,10 +21,10 @@ literal = Takes literal_at
 unfoldable pub identifier : Reader (List ℕ)
 identifier = Takes identifier_at
 
-unfoldable pub number : Reader Head
-number = do
+unfoldable pub number : Dialect → Reader Head
+number dialect = do
   n ← literal
-  white
+  dialect.between
   Give (h.Whole (e.Number n))
 
 -- the call with a word, whose bracket is ahead
@@ -59,36 +59,36 @@ lone_name w = Give (h.Whole (name_node w))
 unfoldable pub name_or_call : List ℕ → Reader Head
 name_or_call w = Choice (begins 40) (called w) (lone_name w)
 
-unfoldable pub named : List ℕ → Reader Head
-named w = do
-  white
+unfoldable pub named : Dialect → List ℕ → Reader Head
+named dialect w = do
+  dialect.between
   name_or_call w
 
-unfoldable pub counter : Reader Head
-counter = do
-  white
+unfoldable pub counter : Dialect → Reader Head
+counter dialect = do
+  dialect.between
   Give (h.Whole e.LocationCounter)
 
 unfoldable pub is_counter : List ℕ → Bool
 is_counter w = bytes_eq w (codes ".")
 
-unfoldable pub counter_or_named : List ℕ → Reader Head
-counter_or_named w = If (is_counter w) counter (named w)
+unfoldable pub counter_or_named : Dialect → List ℕ → Reader Head
+counter_or_named dialect w = If (is_counter w) (counter dialect) (named dialect w)
 
-unfoldable pub word : Reader Head
-word = do
+unfoldable pub word : Dialect → Reader Head
+word dialect = do
   w ← identifier
-  counter_or_named w
+  counter_or_named dialect w
 
 unfoldable pub bracket : Reader Head
 bracket = Give (h.Before c.Brackets)
 
-unfoldable pub number_or_word : Reader Head
-number_or_word = Choice begins_digit number word
+unfoldable pub number_or_word : Dialect → Reader Head
+number_or_word dialect = Choice begins_digit (number dialect) (word dialect)
 
 -- an expression with none inside and the white behind it, or what stands before the bracket ahead
-unfoldable pub head : Reader Head
-head = Choice (begins 40) bracket number_or_word
+unfoldable pub head : Dialect → Reader Head
+head dialect = Choice (begins 40) bracket (number_or_word dialect)
 
 -- how many bytes it takes at least: what stands before a bracket may be nothing
 abbrev pub byte_count : Head → ℕ

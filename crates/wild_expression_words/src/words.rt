@@ -4,6 +4,7 @@ ghost use Rattle.std.specs.Prelude.{◌≡◌, ◌<◌, ◌≤◌, ◌+◌, IfOk
 ghost use Rattle.std.specs.Str.{bytes_eq};
 ghost use Rattle.wild_reading.specs.Place.{ahead};
 ghost use Rattle.wild_reading.specs.Only.{Answers};
+ghost use Rattle.wild_expression_words.specs.Dialect.{first_grammar};
 ghost use Rattle.wild_expression_words.specs.Words as spec;
 ghost use Rattle.wild_expression_words.specs.Identifier as identifiers;
 
@@ -75,7 +76,7 @@ pub fn name<'a>(cursor: &mut Cursor<'a>) -> Result<Piece<'a>, Stop>
 
 #[tactic(auto, using(wild_reading::proofs::Readers::reading), unfolding(crate::specs::Words::number))]
 fn number(cursor: &mut Cursor<'_>, alloc: Global) -> Result<Head, Stop>
-    ensures read { Answers spec.number cursor.old cursor.new result }
+    ensures read { Answers (spec.number first_grammar) cursor.old cursor.new result }
     ensures shorter { OnOk result (ahead cursor.new < ahead cursor.old) }
 {
     let value = value(cursor)?;
@@ -174,7 +175,7 @@ fn name_or_call(cursor: &Cursor<'_>, alloc: Global, word: &[u8]) -> Result<Head,
 
 #[tactic(auto, using(wild_reading::proofs::Readers::reading), unfolding(crate::specs::Words::named))]
 fn named(cursor: &mut Cursor<'_>, alloc: Global, word: &[u8]) -> Result<Head, Stop>
-    ensures { Answers (spec.named word.now) cursor.old cursor.new result }
+    ensures { Answers (spec.named first_grammar word.now) cursor.old cursor.new result }
 {
     cursor.white()?;
     name_or_call(cursor, alloc, word)
@@ -182,7 +183,7 @@ fn named(cursor: &mut Cursor<'_>, alloc: Global, word: &[u8]) -> Result<Head, St
 
 #[tactic(auto, using(wild_reading::proofs::Readers::reading), unfolding(crate::specs::Words::counter))]
 fn counter(cursor: &mut Cursor<'_>, alloc: Global) -> Result<Head, Stop>
-    ensures { Answers spec.counter cursor.old cursor.new result }
+    ensures { Answers (spec.counter first_grammar) cursor.old cursor.new result }
 {
     cursor.white()?;
     let counter = Boxed::new(alloc, Expression::LocationCounter)?;
@@ -198,7 +199,7 @@ fn is_counter(word: &[u8]) -> bool
 
 #[tactic(auto, using(wild_reading::proofs::Readers::choosing), unfolding(crate::specs::Words::counter_or_named))]
 fn counter_or_named(cursor: &mut Cursor<'_>, alloc: Global, word: &[u8]) -> Result<Head, Stop>
-    ensures { Answers (spec.counter_or_named word.now) cursor.old cursor.new result }
+    ensures { Answers (spec.counter_or_named first_grammar word.now) cursor.old cursor.new result }
 {
     if is_counter(word) {
         counter(cursor, alloc)
@@ -209,7 +210,7 @@ fn counter_or_named(cursor: &mut Cursor<'_>, alloc: Global, word: &[u8]) -> Resu
 
 #[tactic(auto, using(wild_reading::proofs::Readers::reading), unfolding(crate::specs::Words::word))]
 fn word(cursor: &mut Cursor<'_>, alloc: Global) -> Result<Head, Stop>
-    ensures read { Answers spec.word cursor.old cursor.new result }
+    ensures read { Answers (spec.word first_grammar) cursor.old cursor.new result }
     ensures shorter { OnOk result (ahead cursor.new < ahead cursor.old) }
 {
     let word = name(cursor)?;
@@ -232,7 +233,7 @@ fn is_number(cursor: &Cursor<'_>) -> bool
 
 #[tactic(auto, using(wild_reading::proofs::Readers::choosing), unfolding(crate::specs::Words::number_or_word))]
 fn number_or_word(cursor: &mut Cursor<'_>, alloc: Global) -> Result<Head, Stop>
-    ensures read { Answers spec.number_or_word cursor.old cursor.new result }
+    ensures read { Answers (spec.number_or_word first_grammar) cursor.old cursor.new result }
     ensures shorter { OnOk result (ahead cursor.new < ahead cursor.old) }
 {
     if is_number(cursor) {
@@ -245,7 +246,7 @@ fn number_or_word(cursor: &mut Cursor<'_>, alloc: Global) -> Result<Head, Stop>
 /// Reads an expression with none inside and the white behind it, or what stands before the bracket ahead.
 #[tactic(auto, using(wild_reading::proofs::Readers::choosing, crate::proofs::Taken::taken), unfolding(crate::specs::Words::head))]
 pub fn read_head(cursor: &mut Cursor<'_>, alloc: Global) -> Result<Head, Stop>
-    ensures read { Answers spec.head cursor.old cursor.new result }
+    ensures read { Answers (spec.head first_grammar) cursor.old cursor.new result }
     ensures shorter { IfOk result (λ h. ahead cursor.new + spec.byte_count h ≤ ahead cursor.old) }
 {
     if cursor.begins(b'(') {

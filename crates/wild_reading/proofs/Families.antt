@@ -1,12 +1,12 @@
--- What readers by a key answer, and folds.
-use Rattle.std.proofs.Common.{◌≡◌, ℕ, zero, suc, ◌≤◌, ◌<◌, Bool, true, false, refl, sym, ◌∙◌, subst, arith}
+-- What depths and folds answer.
+use Rattle.std.proofs.Common.{◌≡◌, ℕ, ◌≤◌, ◌<◌, Bool, true, false, refl, sym, ◌∙◌, subst, arith}
 use Rattle.wild_reading.specs.Place.{Bytes, Place, ahead}
-use Rattle.wild_reading.specs.Reader.{Reader, Then, Choice, yes, no}
-use Rattle.wild_reading.specs.Family.{levels, InsideAt, room, Fold, done, next, Folds}
+use Rattle.wild_reading.specs.Reader.{Reader}
+use Rattle.wild_reading.specs.Family.{room, Fold, done, next, Folds}
 use Rattle.wild_reading.specs.Only.{IsOnly, Refuses, IsTooDeep}
 use Rattle.wild_reading.specs.declared.stop.Stop.{Stop}
 use Rattle.wild_reading.specs.declared.stop.Stop.TheVariants.{TooDeep}
-use Rattle.wild_reading.proofs.Readers.{IsInner, moved, cause_same, bytes_same}
+use Rattle.wild_reading.proofs.Readers.{moved, cause_same, bytes_same}
 
 -- ---- room
 
@@ -19,54 +19,6 @@ unfolding room
 room_refuses {s} {depth} h l = record { none = λ e y j g. let d : depth < s.left = g.deep in omega arith; never = λ e limit y j g. absurd e; cause = l }
 
 pub ruleset rooms = (room_only, room_refuses)
-
--- ---- keys
-
-pub record AreLocal {I A B : Type 0} (F : (I → Reader A) → Reader B) : Type 1 where
-  pub keeps : (n : ℕ) (P Q : I → Reader A) → ((k : I) (b : Bytes) (i : ℕ) (y : A) (j : ℕ) → P k b n i y j → Q k b n i y j) → (b : Bytes) (i : ℕ) (y : B) (j : ℕ) → F P b n i y j → F Q b n i y j
-
-pub key_local : {I A : Type 0} (k : I) → AreLocal {I = I} {A = A} (λ R. R k)
-key_local k = record { keeps = λ n P Q g b i y j h. g k b i y j h }
-
-pub fixed_local : {I A B : Type 0} {P : Reader B} → AreLocal {I = I} {A = A} (λ R. P)
-fixed_local = record { keeps = λ n P Q g b i y j h. h }
-
-pub then_are_local : {I A B C : Type 0} {P : (I → Reader A) → Reader B} {f : (I → Reader A) → B → Reader C} → AreLocal P → ((x : B) → AreLocal (λ R. f R x)) → AreLocal (λ R. Then (P R) (f R))
-then_are_local p q = record {
-  keeps = λ n P Q g b i y j h. record { value = h.value; middle = h.middle; first = p.keeps n P Q g b i h.value h.middle h.first; second = (q h.value).keeps n P Q g b h.middle y j h.second };
-}
-
-module _ {I A B : Type 0} {test : Bytes → ℕ → Bool} {P Q : (I → Reader A) → Reader B} (p : AreLocal P) (q : AreLocal Q) where
-  choice_keeps : (n : ℕ) (R S : I → Reader A) → ((k : I) (b : Bytes) (i : ℕ) (y : A) (j : ℕ) → R k b n i y j → S k b n i y j) → (b : Bytes) (i : ℕ) (y : B) (j : ℕ) → Choice test (P R) (Q R) b n i y j → Choice test (P S) (Q S) b n i y j
-  choice_keeps n R S g b i y j (yes t h) = yes t (p.keeps n R S g b i y j h)
-  choice_keeps n R S g b i y j (no t h) = no t (q.keeps n R S g b i y j h)
-
-  pub choice_are_local : AreLocal (λ R. Choice test (P R) (Q R))
-  choice_are_local = record { keeps = choice_keeps }
-
-module _ {I A B : Type 0} {stop : Bytes → ℕ → Bool} {f : (I → Reader A) → B → Reader B} (q : (x : B) → AreLocal (λ R. f R x)) where
-  fold_keeps : (n : ℕ) (R S : I → Reader A) → ((k : I) (b : Bytes) (i : ℕ) (y : A) (j : ℕ) → R k b n i y j → S k b n i y j) → (b : Bytes) (x : B) (i : ℕ) (y : B) (j : ℕ) → Fold stop (f R) b n x i y j → Fold stop (f S) b n x i y j
-  fold_keeps n R S g b x i y j (done t) = done t
-  fold_keeps n R S g b x i y j (next {y = m} {m = k} t h u) = next t ((q x).keeps n R S g b i m k h) (fold_keeps n R S g b m k y j u)
-
-  pub fold_are_local : (x : B) → AreLocal (λ R. Folds stop (f R) x)
-  fold_are_local x = record { keeps = λ n R S g b i y j h. record { is = fold_keeps n R S g b x i y j h.is } }
-
-module _ {I A : Type 0} (F : (I → Reader A) → I → Reader A) (f : (k : I) → AreLocal (λ R. F R k)) (k : I) where
-  nothing : (b : Bytes) (i : ℕ) (y : A) (j : ℕ) → InsideAt F k b zero i y j → ⊥
-  unfolding levels
-  nothing b i y j h = h.is
-
-  out_of : (b : Bytes) (limit i : ℕ) (y : A) (j : ℕ) → InsideAt F k b (suc limit) i y j → F (InsideAt F) k b limit i y j
-  unfolding levels
-  out_of b limit i y j h = (f k).keeps limit (levels F limit) (InsideAt F) (λ o c l z m g. record { is = g }) b i y j h.is
-
-  into : (b : Bytes) (limit i : ℕ) (y : A) (j : ℕ) → F (InsideAt F) k b limit i y j → InsideAt F k b (suc limit) i y j
-  unfolding levels
-  into b limit i y j h = record { is = (f k).keeps limit (InsideAt F) (levels F limit) (λ o c l z m g. g.is) b i y j h }
-
-  pub inner_at : IsInner (F (InsideAt F) k) (InsideAt F k)
-  inner_at = record { into = into; out = out_of; never = nothing }
 
 -- ---- folds
 

@@ -1,93 +1,111 @@
--- A gap as far as it was passed.
-use Rattle.std.proofs.Common.{◌≡◌, ℕ, ◌+◌, Bool, true, false, List, [], ◌∷◌, refl, sym, ◌∙◌, subst, if◌then◌else◌}
-use Rattle.std.specs.Prelude.{Option, Some, None, Result, Ok, Err}
-use Rattle.wild_names.specs.declared.fault.Fault.{Fault}
-use Rattle.wild_names.specs.declared.fault.Fault.TheVariants.{Syntax, UnclosedComment}
+-- Where a gap ends, one line or comment after another.
+use Rattle.std.proofs.Common.{◌≡◌, ℕ, zero, suc, ◌+◌, ◌-◌, ◌≤◌, ◌<◌, Bool, true, false, length, refl, ◌∙◌, if◌then◌else◌, arith}
+use Rattle.std.specs.Prelude.{Option, Some, None, Result, Ok, Err, cond}
+use Rattle.std.specs.Option.{option_map}
+use Rattle.std.specs.List.{find, range_with_len}
+use Rattle.std.proofs.lemmas.Option.{slice_get_past}
 use Rattle.wild_reading.specs.Place.{Bytes}
-use Rattle.wild_reading.specs.Bytes.{begins, past_white}
-use Rattle.wild_reading.specs.Reader.{yes, no, Until, none, more}
-use Rattle.wild_reading.specs.Lex.{after_white, white, after_byte, byte, after_line, rest_of_line, line, after_comment, comment, line_or_comment, ends_gap, stretch, stretches, gap}
-use Rattle.wild_reading.specs.Gap.{or_fault, stretch_end, Follows, ends, stays, goes, IsGapEnd}
+use Rattle.wild_reading.specs.Bytes.{run_end, is_white, is_in_line, begins, begins_comment, ends_comment, line_end, past_white}
+use Rattle.wild_reading.specs.Lex.{after_line, after_close, after_comment, ends_gap, or_stop, stretch_end, go_on, stretches_end, rest_of_gap, gap_end}
+use Rattle.wild_reading.specs.Gap.{GapsHaveThreeCases}
+use Rattle.wild_reading.specs.declared.stop.Stop.{Stop}
+use Rattle.wild_reading.specs.declared.stop.Stop.TheVariants.{Syntax, OpenComment}
 
--- ---- one answer
+-- ---- each line and each comment takes a byte
 
-same_end : {m n : ℕ} {o : Result ℕ Fault} → o ≡ Ok n → o ≡ Ok m → n ≡ m
-same_end h g = cc (h, g)
+found_by : (c : Bool) (i k : ℕ) (o : Option ℕ) → (o ≡ Some k → i + 1 ≤ k) → cond c (Some i) o ≡ Some k → i ≤ k
+found_by true i k o f h = let e : i ≡ k = cc in omega (arith, e)
+found_by false i k o f h = omega (arith, f h)
 
-followed : {b : Bytes} {i m : ℕ} {r : Result ℕ Fault} → ends_gap b i ≡ false → stretch_end b i ≡ Ok m → Follows b i r → Follows b (past_white b m) r
-followed e s (ends h) = cc (e, h)
-followed e s (stays h f) = cc (s, f)
-followed {b} {m = m} e s (goes {m = n} {r = r} h f k) = subst (λ (p : ℕ). Follows b (past_white b p) r) (same_end f s) k
+found_on : (p : ℕ → Bool) (n i k : ℕ) → find p (range_with_len i n) ≡ Some k → i ≤ k
+found_on p zero i k h = absurd cc
+found_on p (suc n) i k h = found_by (p i) i k (find p (range_with_len (i + 1) n)) (found_on p n (i + 1) k) h
 
-only_end : {b : Bytes} {i : ℕ} {r : Result ℕ Fault} → ends_gap b i ≡ true → Follows b i r → r ≡ Ok i
-only_end e (ends h) = refl
-only_end e (stays h f) = cc (e, h)
-only_end e (goes h f k) = cc (e, h)
+mapped : (o : Option ℕ) (k : ℕ) → option_map (λ m. m + 2) o ≡ Some k → (m : ℕ) × (o ≡ Some m) × (k ≡ m + 2)
+mapped None k h = absurd cc
+mapped (Some m) k h = (m, refl, cc)
 
-only_stay : {b : Bytes} {i : ℕ} {f : Fault} {r : Result ℕ Fault} → ends_gap b i ≡ false → stretch_end b i ≡ Err f → Follows b i r → r ≡ Err f
-only_stay e s (ends h) = cc (e, h)
-only_stay e s (stays h g) = sym g ∙ s
-only_stay e s (goes h g k) = cc (s, g)
+close_on : (b : Bytes) (i k : ℕ) → after_close b i ≡ Some k → i < k
+unfolding after_close
+close_on b i k h =
+    let m = mapped (find (ends_comment b) (range_with_len i (length b - i))) k h in
+    omega (arith, found_on (ends_comment b) (length b - i) i m.0 m.1, m.2)
 
--- ---- the stretches of the grammar
+chosen : {o : Option ℕ} (c : Bool) (k : ℕ) → (if c then o else None) ≡ Some k → o ≡ Some k
+chosen true k h = h
+chosen false k h = absurd cc
 
-found : (f : Fault) (m : ℕ) (o : Option ℕ) → or_fault f o ≡ Ok m → o ≡ Some m
-found f m (Some n) h = cc h
-found f m None h = cc h
+comment_on : (b : Bytes) (i m : ℕ) → after_comment b i ≡ Some m → i < m
+unfolding after_comment
+comment_on b i m h = omega (arith, close_on b (i + 1) m (chosen (begins_comment b i) m h))
 
-line_read : (b : Bytes) (i m : ℕ) → begins 35 b i ≡ true → after_line b (i + 1) ≡ Some m → line b 0 i tt m
-unfolding line byte rest_of_line after_byte
-line_read b i m h e = record { value = tt; middle = _; first = record { found = rw h refl }; second = record { found = e } }
+run_on : (p : ℕ → Bool) (b : Bytes) (i : ℕ) → i ≤ run_end p b i
+unfolding run_end
+run_on p b i = omega arith
 
-comment_read : (b : Bytes) (i m : ℕ) → after_comment b i ≡ Some m → comment b 0 i tt m
-unfolding comment
-comment_read b i m e = record { found = e }
+line_on : (b : Bytes) (i m : ℕ) → after_line b i ≡ Some m → i ≤ m
+unfolding after_line
+line_on b i m h =
+    let e : Some (line_end b i) ≡ Some m = chosen (begins 10 b (line_end b i)) m h in
+    let same : line_end b i ≡ m = cc in
+    omega (arith, same, run_on is_in_line b i)
 
-white_read : (b : Bytes) (i : ℕ) → white b 0 i tt (past_white b i)
-unfolding white after_white
-white_read b i = record { found = refl }
+there : (stop : Stop) (o : Option ℕ) (m : ℕ) → or_stop stop o ≡ Ok m → o ≡ Some m
+there stop (Some n) m h = cc
+there stop None m h = absurd cc
 
-part_by : (b : Bytes) (i m : ℕ) (c : Bool) → begins 35 b i ≡ c → (if c then or_fault (Syntax (i + 1)) (after_line b (i + 1)) else or_fault (UnclosedComment i) (after_comment b i)) ≡ Ok m → line_or_comment b 0 i tt m
-unfolding line_or_comment
-part_by b i m true h e = yes h (line_read b i m h (found _ m _ e))
-part_by b i m false h e = no h (comment_read b i m (found _ m _ e))
+part_on : (b : Bytes) (i m : ℕ) (c : Bool) → (if c then or_stop (Syntax (i + 1)) (after_line b (i + 1)) else or_stop (OpenComment i) (after_comment b i)) ≡ Ok m → i < m
+part_on b i m true h = omega (arith, line_on b (i + 1) m (there (Syntax (i + 1)) (after_line b (i + 1)) m h))
+part_on b i m false h = comment_on b i m (there (OpenComment i) (after_comment b i) m h)
 
-part_read : (b : Bytes) (i m : ℕ) → stretch_end b i ≡ Ok m → line_or_comment b 0 i tt m
+stretch_on : (b : Bytes) (i m : ℕ) → stretch_end b i ≡ Ok m → i < m
 unfolding stretch_end
-part_read b i m e = part_by b i m _ refl e
+stretch_on b i m h = part_on b i m (begins 35 b i) h
 
-stretch_read : (b : Bytes) (i m : ℕ) → stretch_end b i ≡ Ok m → stretch b 0 i tt (past_white b m)
-unfolding stretch
-stretch_read b i m e = record { value = tt; middle = _; first = part_read b i m e; second = white_read b m }
+-- ---- so there are no more than bytes
 
--- ---- so far
+end_ends : (b : Bytes) (i : ℕ) → length b ≤ i → ends_gap b i ≡ true
+unfolding ends_gap begins begins_comment
+end_ends b i h = rw (slice_get_past b i h) refl
 
--- what follows from the beginning is what follows from here
-pub record SoFar (b : Bytes) (start at : ℕ) : Type 0 where
-  pub into : (r : Result ℕ Fault) → Follows b at r → Follows b start r
-  pub back : (r : Result ℕ Fault) → Follows b start r → Follows b at r
-  pub read : (xs : List (Unit {0})) (j : ℕ) → Until ends_gap stretch b 0 at xs j → (ys : List (Unit {0})) × Until ends_gap stretch b 0 start ys j
+same_step : (i : ℕ) (f g : ℕ → Result ℕ Stop) (c : Bool) (r : Result ℕ Stop) → ((m : ℕ) → r ≡ Ok m → f m ≡ g m) → (if c then Ok i else go_on f r) ≡ (if c then Ok i else go_on g r)
+same_step i f g true r h = refl
+same_step i f g false (Err stop) h = refl
+same_step i f g false (Ok m) h = h m refl
 
-pub at_first : {b : Bytes} {i : ℕ} → SoFar b i i
-at_first = record { into = λ r h. h; back = λ r h. h; read = λ xs j h. (xs, h) }
+enough : (n : ℕ) (b : Bytes) (i : ℕ) → length b ≤ n + i → stretches_end n b i ≡ stretches_end (suc n) b i
+unfolding stretches_end
+enough zero b i h = rw (end_ends b i (omega (arith, h))) refl
+enough (suc n) b i h = same_step i (λ m. stretches_end n b (past_white b m)) (λ m. stretches_end (suc n) b (past_white b m)) (ends_gap b i) (stretch_end b i) (λ m e. enough n b (past_white b m) (omega (arith, h, stretch_on b i m e, run_on is_white b m)))
 
-pub on : {b : Bytes} {start at m : ℕ} → SoFar b start at → ends_gap b at ≡ false → stretch_end b at ≡ Ok m → SoFar b start (past_white b m)
-on {b} s e f = record {
-  into = λ r h. s.into r (goes e f h);
-  back = λ r h. followed e f (s.back r h);
-  read = λ xs j h. s.read (tt ∷ xs) j (more e (stretch_read b _ _ f) h);
+one_more : (b : Bytes) (i : ℕ) → rest_of_gap b i ≡ stretches_end (suc (length b)) b i
+unfolding rest_of_gap
+one_more b i = enough (length b) b i (omega arith)
+
+-- ---- the three cases
+
+pub rest_ends : (b : Bytes) (i : ℕ) → ends_gap b i ≡ true → rest_of_gap b i ≡ Ok i
+unfolding stretches_end
+rest_ends b i e = one_more b i ∙ rw e refl
+
+pub rest_stays : (b : Bytes) (i : ℕ) (stop : Stop) → ends_gap b i ≡ false → stretch_end b i ≡ Err stop → rest_of_gap b i ≡ Err stop
+unfolding stretches_end
+rest_stays b i stop e s = one_more b i ∙ rw (e, s) refl
+
+pub rest_goes : (b : Bytes) (i m : ℕ) → ends_gap b i ≡ false → stretch_end b i ≡ Ok m → rest_of_gap b i ≡ rest_of_gap b (past_white b m)
+unfolding stretches_end rest_of_gap
+rest_goes b i m e s = one_more b i ∙ rw (e, s) refl
+
+pub gap_begins : (b : Bytes) (i : ℕ) → gap_end b i ≡ rest_of_gap b (past_white b i)
+unfolding gap_end
+gap_begins b i = refl
+
+pub three_cases : GapsHaveThreeCases
+unfolding gap_end
+three_cases b i = record {
+  ends = rest_ends b (past_white b i);
+  stays = rest_stays b (past_white b i);
+  goes = λ m e s. rest_goes b (past_white b i) m e s;
 }
 
-pub ended : {b : Bytes} {i at : ℕ} → SoFar b (past_white b i) at → ends_gap b at ≡ true → IsGapEnd b i (Ok at)
-ended s e = record { is = s.into _ (ends e); only = λ r h. only_end e (s.back r h) }
-
-pub stayed : {b : Bytes} {i at : ℕ} {f : Fault} → SoFar b (past_white b i) at → ends_gap b at ≡ false → stretch_end b at ≡ Err f → IsGapEnd b i (Err f)
-stayed s e f = record { is = s.into _ (stays e f); only = λ r h. only_stay e f (s.back r h) }
-
-pub gap_read : (b : Bytes) (i at : ℕ) → SoFar b (past_white b i) at → ends_gap b at ≡ true → gap b 0 i tt at
-unfolding gap stretches
-gap_read b i at s e =
-    let p = s.read [] _ (none e) in
-    record { value = tt; middle = _; first = white_read b i; second = record { value = p.0; middle = _; first = p.1; second = record { value = refl; end = refl } } }
-
-pub ruleset gaps = (at_first, on, ended, stayed, gap_read)
+pub ruleset gaps = (gap_begins, rest_ends, rest_stays, rest_goes)

@@ -1,34 +1,31 @@
--- Where a gap ends, or what stays open in it.
-use Rattle.std.specs.Prelude.{◌≡◌, ℕ, ◌+◌, ◌≤◌, true, false, length, if◌then◌else◌, Option, Some, None, Result, Ok, Err}
+-- The three cases of a gap, and what stays open in one.
+use Rattle.std.specs.Prelude.{◌≡◌, ℕ, ◌≤◌, true, false, length, Result, Ok, Err}
 use Rattle.wild_names.specs.declared.fault.Fault.{Fault}
-use Rattle.wild_names.specs.declared.fault.Fault.TheVariants.{Syntax, UnclosedComment}
 use Rattle.wild_reading.specs.Place.{Bytes}
-use Rattle.wild_reading.specs.Bytes.{begins, past_white}
-use Rattle.wild_reading.specs.Lex.{after_line, after_comment, ends_gap}
+use Rattle.wild_reading.specs.Bytes.{past_white}
+use Rattle.wild_reading.specs.Lex.{ends_gap, stretch_end, gap_end}
+use Rattle.wild_reading.specs.Faults.{fault_of}
+use Rattle.wild_reading.specs.Only.{IsOpenComment}
+use Rattle.wild_reading.specs.declared.stop.Stop.{Stop}
+use Rattle.wild_reading.specs.declared.stop.Stop.TheVariants.{Syntax, OpenComment}
 
--- what is there, or else the fault
-abbrev pub or_fault : Fault → Option ℕ → Result ℕ Fault
-or_fault f None = Err f
-or_fault f (Some end) = Ok end
-
--- the end of the line or of the comment that begins here, or the fault that it has none
-unfoldable pub stretch_end : Bytes → ℕ → Result ℕ Fault
-stretch_end b i = if begins 35 b i then or_fault (Syntax (i + 1)) (after_line b (i + 1)) else or_fault (UnclosedComment i) (after_comment b i)
-
--- From here lines and comments follow, each with the white behind it, as far as the position, or as far as one that does
--- not end.
-pub data Follows (b : Bytes) : ℕ → Result ℕ Fault → Type 0 where
-  ends : {i : ℕ} → ends_gap b i ≡ true → Follows b i (Ok i)
-  stays : {i : ℕ} {f : Fault} → ends_gap b i ≡ false → stretch_end b i ≡ Err f → Follows b i (Err f)
-  goes : {i m : ℕ} {r : Result ℕ Fault} → ends_gap b i ≡ false → stretch_end b i ≡ Ok m → Follows b (past_white b m) r → Follows b i r
-
--- the gap at a position ends so, and not otherwise
-pub record IsGapEnd (b : Bytes) (i : ℕ) (result : Result ℕ Fault) : Type 0 where
-  pub is : Follows b (past_white b i) result
-  pub only : (r : Result ℕ Fault) → Follows b (past_white b i) r → r ≡ result
-
--- the position of the fault of an open line or an open comment is in the bytes
-abbrev pub IsOpen : Bytes → Fault → Type 0
+-- what shows that a line or a comment does not end
+abbrev pub IsOpen : Bytes → Stop → Type 0
 IsOpen b (Syntax position) = position ≤ length b
-IsOpen b (UnclosedComment position) = position ≤ length b
-IsOpen b f = ⊥
+IsOpen b (OpenComment position) = IsOpenComment b position
+IsOpen b stop = ⊥
+
+-- with the fault that tells why
+abbrev pub told : Result ℕ Stop → Result ℕ Fault
+told (Ok end) = Ok end
+told (Err stop) = Err (fault_of stop)
+
+-- White is taken. Then the gap ends there; or a line or a comment begins there that does not end; or it is passed, and
+-- the gap begins again behind it.
+pub record HasThreeCases (b : Bytes) (i : ℕ) : Type 0 where
+  pub ends : ends_gap b (past_white b i) ≡ true → gap_end b i ≡ Ok (past_white b i)
+  pub stays : (stop : Stop) → ends_gap b (past_white b i) ≡ false → stretch_end b (past_white b i) ≡ Err stop → gap_end b i ≡ Err stop
+  pub goes : (m : ℕ) → ends_gap b (past_white b i) ≡ false → stretch_end b (past_white b i) ≡ Ok m → gap_end b i ≡ gap_end b m
+
+abbrev pub GapsHaveThreeCases : Type 0
+GapsHaveThreeCases = (b : Bytes) (i : ℕ) → HasThreeCases b i

@@ -1,10 +1,13 @@
 -- Gaps, tokens and symbols.
-use Rattle.std.specs.Prelude.{ℕ, ◌+◌, ◌-◌, ◌==◌, Bool, true, false, not, ◌&&◌, if◌then◌else◌, List, take, drop, length, codes, Option, Some, None}
+use Rattle.std.specs.Prelude.{ℕ, zero, suc, ◌+◌, ◌-◌, ◌==◌, Bool, true, false, not, ◌&&◌, if◌then◌else◌, List, take, drop, length, codes, Option, Some, None, Result, Ok, Err}
 use Rattle.std.specs.Option.{option_map}
+use Rattle.std.specs.Result.{result_ok}
 use Rattle.std.specs.List.{find, range_with_len}
 use Rattle.wild_reading.specs.Place.{Bytes}
 use Rattle.wild_reading.specs.Bytes.{past_white, token_end, pattern_end, line_end, quotes_end, begins, begins_with, begins_comment, ends_comment}
-use Rattle.wild_reading.specs.Reader.{Reader, ◌>>=◌, ◌>>◌, Give, Passes, Takes, Choice, Until}
+use Rattle.wild_reading.specs.Reader.{Reader, ◌>>=◌, ◌>>◌, Give, Passes, Takes, Choice}
+use Rattle.wild_reading.specs.declared.stop.Stop.{Stop}
+use Rattle.wild_reading.specs.declared.stop.Stop.TheVariants.{Syntax, OpenComment}
 
 -- ---- gaps
 
@@ -24,15 +27,6 @@ byte c = Passes (after_byte c)
 unfoldable pub after_line : Bytes → ℕ → Option ℕ
 after_line b i = if begins 10 b (line_end b i) then Some (line_end b i) else None
 
-unfoldable pub rest_of_line : Reader (Unit {0})
-rest_of_line = Passes after_line
-
--- a # and what stands behind it in its line
-unfoldable pub line : Reader (Unit {0})
-line = do
-  byte 35
-  rest_of_line
-
 -- behind the first `*/` from the position on
 unfoldable pub after_close : Bytes → ℕ → Option ℕ
 after_close b i = option_map (λ k. k + 2) (find (ends_comment b) (range_with_len i (length b - i)))
@@ -41,32 +35,42 @@ after_close b i = option_map (λ k. k + 2) (find (ends_comment b) (range_with_le
 unfoldable pub after_comment : Bytes → ℕ → Option ℕ
 after_comment b i = if begins_comment b i then after_close b (i + 1) else None
 
-unfoldable pub comment : Reader (Unit {0})
-comment = Passes after_comment
-
-unfoldable pub line_or_comment : Reader (Unit {0})
-line_or_comment = Choice (begins 35) line comment
-
+-- neither a line nor a comment begins here
 unfoldable pub ends_gap : Bytes → ℕ → Bool
 ends_gap b i = not (begins 35 b i) && not (begins_comment b i)
 
--- a line or a comment, and the white behind it
-unfoldable pub stretch : Reader (Unit {0})
-stretch = do
-  line_or_comment
-  white
+-- what is there, or else why reading stops
+abbrev pub or_stop : Stop → Option ℕ → Result ℕ Stop
+or_stop stop None = Err stop
+or_stop stop (Some end) = Ok end
 
--- lines and comments, as many as there are
-unfoldable pub stretches : Reader (Unit {0})
-stretches = do
-  Until ends_gap stretch
-  Give tt
+-- the end of the line or of the comment that begins here, or that it has none
+unfoldable pub stretch_end : Bytes → ℕ → Result ℕ Stop
+stretch_end b i = if begins 35 b i then or_stop (Syntax (i + 1)) (after_line b (i + 1)) else or_stop (OpenComment i) (after_comment b i)
+
+abbrev pub go_on : (ℕ → Result ℕ Stop) → Result ℕ Stop → Result ℕ Stop
+go_on f (Err stop) = Err stop
+go_on f (Ok m) = f m
+
+-- behind so many lines and comments, each with the white behind it, or fewer where the gap ends before
+unfoldable pub stretches_end : ℕ → Bytes → ℕ → Result ℕ Stop
+stretches_end zero b i = Ok i
+stretches_end (suc n) b i = if ends_gap b i then Ok i else go_on (λ m. stretches_end n b (past_white b m)) (stretch_end b i)
+
+-- behind all of them: each takes a byte
+unfoldable pub rest_of_gap : Bytes → ℕ → Result ℕ Stop
+rest_of_gap b i = stretches_end (length b) b i
+
+-- behind white, lines and comments, or what stays open
+unfoldable pub gap_end : Bytes → ℕ → Result ℕ Stop
+gap_end b i = rest_of_gap b (past_white b i)
+
+unfoldable pub after_gap : Bytes → ℕ → Option ℕ
+after_gap b i = result_ok (gap_end b i)
 
 -- white, lines and comments
 unfoldable pub gap : Reader (Unit {0})
-gap = do
-  white
-  stretches
+gap = Passes after_gap
 
 -- ---- tokens
 

@@ -9,6 +9,7 @@ ghost use Rattle.wild_reading.specs.Family as family;
 ghost use Rattle.wild_reading.specs.Only.{Answers, IsOnly, Enters, Leaves};
 
 use crate::lex;
+use crate::skipping::past_gap;
 use crate::stop::Stop;
 use std::alloc::Global;
 use std::marker::Model;
@@ -187,92 +188,18 @@ impl<'a> Cursor<'a> {
         Ok(())
     }
 
-    #[tactic(auto, using(crate::proofs::Readers::leaves, crate::proofs::Leaves::moves), unfolding(crate::specs::Lex::rest_of_line))]
-    fn rest_of_line(&mut self) -> Result<(), Stop>
-        ensures { Answers lexis.rest_of_line self.old self.new result }
-    {
-        match lex::after_line(self.bytes, self.at) {
-            Some(end) => {
-                self.at = end;
-                Ok(())
-            }
-            None => Err(Stop::Syntax { position: self.at }),
-        }
-    }
-
-    #[tactic(auto, using(crate::proofs::Readers::reading), unfolding(crate::specs::Lex::line))]
-    fn line(&mut self) -> Result<(), Stop>
-        ensures read { Answers lexis.line self.old self.new result }
-        ensures shorter { OnOk result (ahead self.new < ahead self.old) }
-    {
-        self.byte(b'#')?;
-        self.rest_of_line()?;
-        Ok(())
-    }
-
-    #[tactic(auto, using(crate::proofs::Readers::leaves, crate::proofs::Leaves::moves, crate::proofs::Leaves::open_comment), unfolding(crate::specs::Lex::comment, crate::specs::Lex::after_comment))]
-    fn comment(&mut self) -> Result<(), Stop>
-        ensures read { Answers lexis.comment self.old self.new result }
-        ensures shorter { OnOk result (ahead self.new < ahead self.old) }
-    {
-        if !lex::begins_comment(self.bytes, self.at) {
-            return Err(Stop::Syntax { position: self.at });
-        }
-        match lex::after_close(self.bytes, self.at + 1) {
-            Some(end) => {
-                self.at = end;
-                Ok(())
-            }
-            None => Err(Stop::OpenComment { position: self.at }),
-        }
-    }
-
-    #[tactic(auto, using(crate::proofs::Readers::choosing), unfolding(crate::specs::Lex::line_or_comment))]
-    fn line_or_comment(&mut self) -> Result<(), Stop>
-        ensures read { Answers lexis.line_or_comment self.old self.new result }
-        ensures shorter { OnOk result (ahead self.new < ahead self.old) }
-    {
-        if self.begins(b'#') {
-            self.line()
-        } else {
-            self.comment()
-        }
-    }
-
-    #[tactic(auto, using(crate::proofs::Readers::reading), unfolding(crate::specs::Lex::stretch))]
-    fn stretch(&mut self) -> Result<(), Stop>
-        ensures read { Answers lexis.stretch self.old self.new result }
-        ensures shorter { OnOk result (ahead self.new < ahead self.old) }
-    {
-        self.line_or_comment()?;
-        self.white()?;
-        Ok(())
-    }
-
-    fn ends_gap(&self) -> bool
-        ensures { result ≡ lexis.ends_gap self.now.text.bytes self.now.at }
-    {
-        lex::ends_gap(self.bytes, self.at)
-    }
-
-    #[tactic(auto, using(crate::proofs::Readers::repeating), unfolding(crate::specs::Lex::stretches))]
-    fn stretches(&mut self) -> Result<(), Stop>
-        ensures { Answers lexis.stretches self.old self.new result }
-    {
-        'stretches: while !self.ends_gap() {
-            self.stretch()?;
-        }
-        Ok(())
-    }
-
     /// Passes white, lines and comments.
-    #[tactic(auto, using(crate::proofs::Readers::reading), unfolding(crate::specs::Lex::gap))]
+    #[tactic(auto, using(crate::proofs::Readers::leaves, crate::proofs::Leaves::moves, crate::proofs::Leaves::causes), unfolding(crate::specs::Lex::gap, crate::specs::Lex::after_gap))]
     pub fn gap(&mut self) -> Result<(), Stop>
         ensures { Answers lexis.gap self.old self.new result }
     {
-        self.white()?;
-        self.stretches()?;
-        Ok(())
+        match past_gap(self.bytes, self.at) {
+            Ok(end) => {
+                self.at = end;
+                Ok(())
+            }
+            Err(stop) => Err(stop),
+        }
     }
 
     /// Reads a byte, and nothing behind it.

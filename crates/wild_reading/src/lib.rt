@@ -10,5 +10,5 @@ mod stop;
 pub use cursor::{Cursor, Token};
 pub use lex::{begins, quotes_end};
 pub use many::{Grammar, read_until};
-pub use skipping::skip_comments_and_whitespace;
+pub use skipping::{gaps_have_three_cases, skip_comments_and_whitespace};
 pub use stop::Stop;

@@ -1,10 +1,11 @@
 //! Passes the gap at a position.
 
-ghost use Rattle.std.specs.Prelude.{◌≡◌, ◌≤◌, ◌<◌, length, IfSome, IfOk, IfErr};
-ghost use Rattle.wild_reading.specs.Gap.{stretch_end, IsGapEnd, IsOpen};
+ghost use Rattle.std.specs.Prelude.{◌≡◌, ◌≤◌, ◌<◌, false, length, IfSome, IfOk, IfErr};
+ghost use Rattle.wild_reading.specs.Gap.{IsOpen, told, GapsHaveThreeCases};
 ghost use Rattle.wild_reading.specs.Lex as lexis;
 
 use crate::lex::{after_close, after_line, begins, begins_comment, ends_gap, past_white};
+use crate::stop::Stop;
 use wild_names::Fault;
 
 /// The position behind the comment at a position.
@@ -21,29 +22,26 @@ fn past_comment(bytes: &[u8], at: usize) -> Option<usize>
 }
 
 /// The end of the line or the comment at a position.
-#[tactic(auto, unfolding(crate::specs::Gap::stretch_end))]
-fn past_stretch(bytes: &[u8], at: usize) -> Result<usize, Fault>
-    requires { at ≤ length bytes.now }
-    ensures value { result ≡ stretch_end bytes.now at }
+#[tactic(auto, using(crate::proofs::Leaves::open_comments), unfolding(crate::specs::Lex::stretch_end))]
+fn past_stretch(bytes: &[u8], at: usize) -> Result<usize, Stop>
+    requires within { at ≤ length bytes.now }
+    requires begins { lexis.ends_gap bytes.now at ≡ false }
+    ensures value { result ≡ lexis.stretch_end bytes.now at }
     ensures forward { IfOk result (λ end. (at < end) × (end ≤ length bytes.now)) }
     ensures open { IfErr result (IsOpen bytes.now) }
 {
     if begins(bytes, at, b'#') {
-        after_line(bytes, at + 1).ok_or(Fault::Syntax { position: at + 1 })
+        after_line(bytes, at + 1).ok_or(Stop::Syntax { position: at + 1 })
     } else {
-        past_comment(bytes, at).ok_or(Fault::UnclosedComment { position: at })
+        past_comment(bytes, at).ok_or(Stop::OpenComment { position: at })
     }
 }
 
-/// The position behind the white, the lines that begin with `#`, and the comments at a position. Fails with
-/// `Syntax` where such a line has no newline, and with `UnclosedComment` where a comment does not end.
+/// The position behind the white, the lines and the comments at a position.
 #[tactic(auto, using(crate::proofs::Gaps::gaps))]
-pub fn skip_comments_and_whitespace(bytes: &[u8], position: usize) -> Result<usize, Fault>
+pub fn past_gap(bytes: &[u8], position: usize) -> Result<usize, Stop>
     requires { position ≤ length bytes.now }
-    // It ends where the gap does, or has the fault of what stays open.
-    ensures value { IsGapEnd bytes.now position result }
-    // It ends at one place with the gap of the grammar.
-    ensures gap { IfOk result (λ end. lexis.gap bytes.now 0 position tt end) }
+    ensures value { result ≡ lexis.gap_end bytes.now position }
     ensures forward { IfOk result (λ end. (position ≤ end) × (end ≤ length bytes.now)) }
     ensures open { IfErr result (IsOpen bytes.now) }
 {
@@ -53,3 +51,22 @@ pub fn skip_comments_and_whitespace(bytes: &[u8], position: usize) -> Result<usi
     }
     Ok(at)
 }
+
+/// The position behind the white, the lines that begin with `#`, and the comments at a position. Fails with
+/// `Syntax` where such a line has no newline, and with `UnclosedComment` where a comment does not end.
+pub fn skip_comments_and_whitespace(bytes: &[u8], position: usize) -> Result<usize, Fault>
+    requires { position ≤ length bytes.now }
+    // It is the end of the gap, or the fault that tells what stays open.
+    ensures value { result ≡ told (lexis.gap_end bytes.now position) }
+    ensures forward { IfOk result (λ end. (position ≤ end) × (end ≤ length bytes.now)) }
+{
+    match past_gap(bytes, position) {
+        Ok(end) => Ok(end),
+        Err(stop) => Err(Fault::from(stop)),
+    }
+}
+
+/// A gap is white, and then its end, a line or comment that does not end, or one that does and a gap behind it.
+pub fn gaps_have_three_cases()
+    ensures { GapsHaveThreeCases }
+{}

@@ -1,9 +1,8 @@
 -- A sort word directly in the brackets of another.
-use Rattle.std.proofs.Common.{◌≡◌, ℕ, ◌≤◌, true, false, List, [], ◌∷◌, length, refl, sym, subst, ap}
+use Rattle.std.proofs.Common.{◌≡◌, ℕ, ◌≤◌, true, false, length, refl, sym, subst, ap}
 use Rattle.std.specs.Prelude.{Err}
 use Rattle.wild_reading.specs.Place.{Bytes, Text, Place}
-use Rattle.wild_reading.specs.Reader.{yes, no, Until, none, more}
-use Rattle.wild_reading.specs.Lex.{white, byte, rest_of_line, line, comment, line_or_comment, ends_gap, stretch, stretches, gap, sort_bracket}
+use Rattle.wild_reading.specs.Lex.{byte, gap, sort_bracket}
 use Rattle.wild_reading.specs.Only.{IsOnly, Refuses, Answers, IsNestedSort}
 use Rattle.wild_reading.specs.declared.stop.Stop.{Stop}
 use Rattle.wild_reading.specs.declared.stop.Stop.TheVariants.{NestedSort}
@@ -12,36 +11,9 @@ use Rattle.wild_script.specs.Pattern.{begins_sort, has_no_sort, no_sort, sort_op
 
 -- ---- what has no depth is read at any limit
 
-white_at : (b : Bytes) (limit other i : ℕ) (j : ℕ) → white b limit i tt j → white b other i tt j
-unfolding white
-white_at b limit other i j h = record { found = h.found }
-
-part_at : (b : Bytes) (limit other i : ℕ) (j : ℕ) → line_or_comment b limit i tt j → line_or_comment b other i tt j
-unfolding line_or_comment line byte rest_of_line comment
-part_at b limit other i j (yes t h) = yes t (record { value = tt; middle = h.middle; first = record { found = h.first.found }; second = record { found = h.second.found } })
-part_at b limit other i j (no t h) = no t (record { found = h.found })
-
-stretch_at : (b : Bytes) (limit other i : ℕ) (j : ℕ) → stretch b limit i tt j → stretch b other i tt j
-unfolding stretch
-stretch_at b limit other i j h = record { value = tt; middle = h.middle; first = part_at b limit other i h.middle h.first; second = white_at b limit other h.middle j h.second }
-
-all_at : (b : Bytes) (limit other i : ℕ) (xs : List (Unit {0})) (j : ℕ) → Until ends_gap stretch b limit i xs j → Until ends_gap stretch b other i xs j
-all_at b limit other i [] j (none t) = none t
-all_at b limit other i (x ∷ xs) j (more {m = m} t h u) = more t (stretch_at b limit other i m h) (all_at b limit other m xs j u)
-
 gap_at : (b : Bytes) (limit other i : ℕ) (j : ℕ) → gap b limit i tt j → gap b other i tt j
-unfolding gap stretches
-gap_at b limit other i j h = record {
-  value = tt;
-  middle = h.middle;
-  first = white_at b limit other i h.middle h.first;
-  second = record {
-    value = h.second.value;
-    middle = h.second.middle;
-    first = all_at b limit other h.middle h.second.value h.second.middle h.second.first;
-    second = record { value = refl; end = h.second.second.end };
-  };
-}
+unfolding gap
+gap_at b limit other i j h = record { found = h.found }
 
 bracket_at : (b : Bytes) (limit other i : ℕ) (j : ℕ) → sort_bracket b limit i tt j → sort_bracket b other i tt j
 unfolding sort_bracket byte

@@ -1,25 +1,49 @@
 -- What stands in output sections.
-use Rattle.std.specs.Prelude.{Bool, not, ◌||◌, ◌&&◌, List}
+use Rattle.std.specs.Prelude.{ℕ, false, List, Option, Some, None}
 use Rattle.wild_reading.specs.Bytes.{begins}
-use Rattle.wild_reading.specs.Reader.{Reader, ◌>>=◌, ◌>>◌, Give, check, Until}
-use Rattle.wild_reading.specs.Lex.{Word, word, optional_symbol}
-use Rattle.wild_script.specs.Words.{is_assert, is_provide}
-use Rattle.wild_script.specs.Matcher.{matcher}
+use Rattle.wild_reading.specs.Reader.{Reader, ◌>>=◌, ◌>>◌, Give, Nothing, Until}
+use Rattle.wild_reading.specs.Lex.{word, optional_symbol}
+use Rattle.wild_reading.specs.Lex as lexis
+use Rattle.wild_script.specs.Words.{contents_word}
+use Rattle.wild_script.specs.Matcher.{keep_matcher, file_matcher}
+use Rattle.wild_script.specs.declared.words.ContentsWord.{ContentsWord}
+use Rattle.wild_script.specs.declared.words.ContentsWord.TheVariants as k
 use Rattle.wild_script.specs.declared.tree.ContentsCommand.{ContentsCommand}
 use Rattle.wild_script.specs.declared.tree.ContentsCommand.TheVariants.{Matcher}
 
--- a word of a statement that isn't built yet, which never stands in quotes
-unfoldable pub is_unbuilt : Word → Bool
-is_unbuilt w = not w.quoted && (is_provide w.content || is_assert w.content)
+-- behind KEEP; a semicolon or none
+unfoldable pub keep_statement : Reader ContentsCommand
+keep_statement = do
+  read ← keep_matcher
+  optional_symbol 59
+  Give (Matcher read)
 
--- a token and a matcher; a semicolon or none
+-- behind the token of a file; a semicolon or none
+unfoldable pub file_statement : List ℕ → Reader ContentsCommand
+file_statement file = do
+  read ← file_matcher false file
+  optional_symbol 59
+  Give (Matcher read)
+
+-- behind the word of a statement
+abbrev pub word_statement : ContentsWord → Reader ContentsCommand
+word_statement k.Provide = Nothing
+word_statement k.ProvideHidden = Nothing
+word_statement k.Assert = Nothing
+word_statement k.Keep = keep_statement
+
+abbrev pub statement_behind : List ℕ → Option ContentsWord → Reader ContentsCommand
+statement_behind file None = file_statement file
+statement_behind file (Some found) = word_statement found
+
+-- behind the first token of a statement
+unfoldable pub behind : lexis.Word → Reader ContentsCommand
+behind first = statement_behind first.content (contents_word first)
+
 unfoldable pub contents_statement : Reader ContentsCommand
 contents_statement = do
   first ← word
-  check (not (is_unbuilt first))
-  read ← matcher first
-  optional_symbol 59
-  Give (Matcher read)
+  behind first
 
 unfoldable pub contents : Reader (List ContentsCommand)
 contents = Until (begins 125) contents_statement

@@ -1,9 +1,9 @@
 -- Matchers of input sections.
-use Rattle.std.specs.Prelude.{ℕ, Bool, true, false, not, ◌&&◌, if◌then◌else◌, List, Option, Some, None, codes}
+use Rattle.std.specs.Prelude.{ℕ, Bool, true, if◌then◌else◌, List, Option, Some, None, codes}
 use Rattle.std.specs.Str.{bytes_eq}
 use Rattle.wild_reading.specs.Place.{Bytes}
-use Rattle.wild_reading.specs.Reader.{Reader, ◌>>=◌, ◌>>◌, Give, If}
-use Rattle.wild_reading.specs.Lex.{Word, byte, symbol, word}
+use Rattle.wild_reading.specs.Reader.{Reader, ◌>>=◌, ◌>>◌, Give}
+use Rattle.wild_reading.specs.Lex.{byte, symbol, word}
 use Rattle.wild_script.specs.Pattern.{pattern_list}
 use Rattle.wild_script.specs.declared.tree.Matcher as tree
 
@@ -14,10 +14,6 @@ is_every_file content = bytes_eq content (codes "*")
 -- the file pattern that a token is; none is every file
 unfoldable pub file_pattern : Bytes → Option (List ℕ)
 file_pattern content = if is_every_file content then None else Some content
-
--- the word KEEP, which never stands in quotes
-unfoldable pub is_keep : Word → Bool
-is_keep w = not w.quoted && bytes_eq w.content (codes "KEEP")
 
 -- behind the token of its file: patterns in brackets
 unfoldable pub file_matcher : Bool → Bytes → Reader tree.Matcher
@@ -33,7 +29,3 @@ keep_matcher = do
   matcher ← file_matcher true file.content
   symbol 41
   Give matcher
-
--- behind its first token
-unfoldable pub matcher : Word → Reader tree.Matcher
-matcher w = If (is_keep w) keep_matcher (file_matcher false w.content)

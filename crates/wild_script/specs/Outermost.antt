@@ -1,10 +1,12 @@
 -- Outermost commands.
-use Rattle.std.specs.Prelude.{ℕ, Bool, not, List}
+use Rattle.std.specs.Prelude.{ℕ, Bool, true, false, List, Option, Some, None}
 use Rattle.wild_reading.specs.Bytes.{begins}
-use Rattle.wild_reading.specs.Reader.{Reader, ◌>>=◌, ◌>>◌, Give, check, If, Until}
+use Rattle.wild_reading.specs.Reader.{Reader, ◌>>=◌, ◌>>◌, Give, Nothing, If, Until}
 use Rattle.wild_reading.specs.Lex.{word, symbol, optional_symbol}
 use Rattle.wild_expression.specs.Parts.{assert_body}
-use Rattle.wild_script.specs.Words.{is_sections, is_assert, is_provide, is_provide_hidden, is_to_come}
+use Rattle.wild_script.specs.Words.{command_word}
+use Rattle.wild_script.specs.declared.words.CommandWord.{CommandWord}
+use Rattle.wild_script.specs.declared.words.CommandWord.TheVariants as c
 use Rattle.wild_script.specs.Assignment.{is_dot, open_value}
 use Rattle.wild_script.specs.Provide.{provided}
 use Rattle.wild_script.specs.Section.{statement}
@@ -56,21 +58,29 @@ symbol_definition name = do
 unfoldable pub assignment_command : List ℕ → Reader Command
 assignment_command name = If (is_dot name) (location_command name) (symbol_definition name)
 
--- an assignment, where the name isn't a word of another command
-unfoldable pub named_command : List ℕ → Reader Command
-named_command name = do
-  check (not (is_to_come name))
-  assignment_command name
+-- behind the word of a command
+abbrev pub word_command : CommandWord → Reader Command
+word_command c.Group = Nothing
+word_command c.Input = Nothing
+word_command c.AsNeeded = Nothing
+word_command c.OutputArch = Nothing
+word_command c.OutputFormat = Nothing
+word_command c.Sections = sections_command
+word_command c.Entry = Nothing
+word_command c.Version = Nothing
+word_command c.Provide = provide_command false
+word_command c.ProvideHidden = provide_command true
+word_command c.Assert = assert_command
+word_command c.Memory = Nothing
+word_command c.Phdrs = Nothing
 
-unfoldable pub provide_or_named : List ℕ → Reader Command
-provide_or_named name = If (is_provide name) (provide_command (is_provide_hidden name)) (named_command name)
+abbrev pub command_behind : List ℕ → Option CommandWord → Reader Command
+command_behind first None = assignment_command first
+command_behind first (Some word) = word_command word
 
-unfoldable pub assert_or_other : List ℕ → Reader Command
-assert_or_other name = If (is_assert name) assert_command (provide_or_named name)
-
--- behind the first word of a command
+-- behind the first token of a command
 unfoldable pub behind_word : List ℕ → Reader Command
-behind_word name = If (is_sections name) sections_command (assert_or_other name)
+behind_word first = command_behind first (command_word first)
 
 unfoldable pub command : Reader Command
 command = do

@@ -1,12 +1,14 @@
 -- Output sections, and the other statements of SECTIONS.
-use Rattle.std.specs.Prelude.{ℕ, Bool, not, ◌||◌, List, []}
+use Rattle.std.specs.Prelude.{ℕ, Bool, true, false, not, ◌||◌, List, [], Option, Some, None}
 use Rattle.std.specs.Str.{bytes_eq}
 use Rattle.wild_reading.specs.Place.{Bytes}
 use Rattle.wild_reading.specs.Bytes.{begins}
 use Rattle.wild_reading.specs.Reader.{Reader, ◌>>=◌, ◌>>◌, Give, check, Ahead, Choice, If}
 use Rattle.wild_reading.specs.Lex.{word, symbol, optional_symbol}
 use Rattle.wild_expression.specs.Parts.{assert_body}
-use Rattle.wild_script.specs.Words.{is_assert, is_provide, is_provide_hidden}
+use Rattle.wild_script.specs.Words.{statement_word}
+use Rattle.wild_script.specs.declared.words.StatementWord.{StatementWord}
+use Rattle.wild_script.specs.declared.words.StatementWord.TheVariants as s
 use Rattle.wild_script.specs.Assignment.{is_dot, begins_assignment, closed_value}
 use Rattle.wild_script.specs.Provide.{provided}
 use Rattle.wild_script.specs.Contents.{contents}
@@ -65,12 +67,19 @@ assignment name = If (is_dot name) (location name) (symbol_assignment name)
 unfoldable pub assignment_or_section : List ℕ → Reader SectionCommand
 assignment_or_section name = Choice begins_assignment (assignment name) (section name)
 
-unfoldable pub provide_or_named : List ℕ → Reader SectionCommand
-provide_or_named name = If (is_provide name) (provide_statement (is_provide_hidden name)) (assignment_or_section name)
+-- behind the word of a statement
+abbrev pub word_statement : StatementWord → Reader SectionCommand
+word_statement s.Assert = assert_statement
+word_statement s.Provide = provide_statement false
+word_statement s.ProvideHidden = provide_statement true
 
--- behind the first word of a statement
+abbrev pub statement_behind : List ℕ → Option StatementWord → Reader SectionCommand
+statement_behind first None = assignment_or_section first
+statement_behind first (Some word) = word_statement word
+
+-- behind the first token of a statement
 unfoldable pub behind : List ℕ → Reader SectionCommand
-behind name = If (is_assert name) assert_statement (provide_or_named name)
+behind first = statement_behind first (statement_word first)
 
 -- a statement in SECTIONS
 unfoldable pub statement : Reader SectionCommand

@@ -1,30 +1,44 @@
 -- Words that statements begin with.
-use Rattle.std.specs.Prelude.{Bool, ◌||◌, codes}
+use Rattle.std.specs.Prelude.{if◌then◌else◌, Option, Some, None, codes}
 use Rattle.std.specs.Str.{bytes_eq}
 use Rattle.wild_reading.specs.Place.{Bytes}
+use Rattle.wild_script.specs.declared.words.CommandWord.{CommandWord}
+use Rattle.wild_script.specs.declared.words.CommandWord.TheVariants as c
+use Rattle.wild_reading.specs.Lex.{Word}
+use Rattle.wild_script.specs.declared.words.ContentsWord.{ContentsWord}
+use Rattle.wild_script.specs.declared.words.ContentsWord.TheVariants as k
+use Rattle.wild_script.specs.declared.words.StatementWord.{StatementWord}
+use Rattle.wild_script.specs.declared.words.StatementWord.TheVariants as s
 
-unfoldable pub is_sections : Bytes → Bool
-is_sections content = bytes_eq content (codes "SECTIONS")
+-- the word of an outermost command that these bytes are
+abbrev pub command_word : Bytes → Option CommandWord
+command_word content =
+    if bytes_eq content (codes "GROUP") then Some c.Group else (
+    if bytes_eq content (codes "INPUT") then Some c.Input else (
+    if bytes_eq content (codes "AS_NEEDED") then Some c.AsNeeded else (
+    if bytes_eq content (codes "OUTPUT_ARCH") then Some c.OutputArch else (
+    if bytes_eq content (codes "OUTPUT_FORMAT") then Some c.OutputFormat else (
+    if bytes_eq content (codes "SECTIONS") then Some c.Sections else (
+    if bytes_eq content (codes "ENTRY") then Some c.Entry else (
+    if bytes_eq content (codes "VERSION") then Some c.Version else (
+    if bytes_eq content (codes "PROVIDE") then Some c.Provide else (
+    if bytes_eq content (codes "PROVIDE_HIDDEN") then Some c.ProvideHidden else (
+    if bytes_eq content (codes "ASSERT") then Some c.Assert else (
+    if bytes_eq content (codes "MEMORY") then Some c.Memory else (
+    if bytes_eq content (codes "PHDRS") then Some c.Phdrs else None))))))))))))
 
-unfoldable pub is_assert : Bytes → Bool
-is_assert content = bytes_eq content (codes "ASSERT")
+-- the word of a statement of SECTIONS that they are
+abbrev pub statement_word : Bytes → Option StatementWord
+statement_word content =
+    if bytes_eq content (codes "ASSERT") then Some s.Assert else (
+    if bytes_eq content (codes "PROVIDE") then Some s.Provide else (
+    if bytes_eq content (codes "PROVIDE_HIDDEN") then Some s.ProvideHidden else None))
 
-unfoldable pub is_provide_hidden : Bytes → Bool
-is_provide_hidden content = bytes_eq content (codes "PROVIDE_HIDDEN")
-
--- PROVIDE or PROVIDE_HIDDEN
-unfoldable pub is_provide : Bytes → Bool
-is_provide content = bytes_eq content (codes "PROVIDE") || is_provide_hidden content
-
-unfoldable pub is_of_files : Bytes → Bool
-is_of_files content = bytes_eq content (codes "GROUP") || bytes_eq content (codes "INPUT") || bytes_eq content (codes "AS_NEEDED")
-
-unfoldable pub is_of_output : Bytes → Bool
-is_of_output content = bytes_eq content (codes "OUTPUT_ARCH") || bytes_eq content (codes "OUTPUT_FORMAT") || bytes_eq content (codes "ENTRY")
-
-unfoldable pub is_of_layout : Bytes → Bool
-is_of_layout content = bytes_eq content (codes "VERSION") || bytes_eq content (codes "MEMORY") || bytes_eq content (codes "PHDRS")
-
--- a word of an outermost command that isn't built yet
-unfoldable pub is_to_come : Bytes → Bool
-is_to_come content = is_of_files content || is_of_output content || is_of_layout content
+-- the word of a statement in a section that a token is, which never stands in quotes
+abbrev pub contents_word : Word → Option ContentsWord
+contents_word w =
+    if w.quoted then None else (
+    if bytes_eq w.content (codes "PROVIDE") then Some k.Provide else (
+    if bytes_eq w.content (codes "PROVIDE_HIDDEN") then Some k.ProvideHidden else (
+    if bytes_eq w.content (codes "ASSERT") then Some k.Assert else (
+    if bytes_eq w.content (codes "KEEP") then Some k.Keep else None))))

@@ -1,22 +1,66 @@
 //! Reads what stands in output sections.
 
-ghost use Rattle.std.specs.Prelude.{◌≡◌, ◌<◌, OnOk};
+ghost use Rattle.std.specs.Prelude.{◌<◌, OnOk};
 ghost use Rattle.wild_reading.specs.Only.{Answers};
 ghost use Rattle.wild_reading.specs.Place.{ahead};
 ghost use Rattle.wild_script.specs.Contents as spec;
 
-use crate::matcher::matcher;
+use crate::matcher::{file_matcher, keep_matcher};
 use crate::tree::ContentsCommand;
-use crate::words::{is_assert, is_provide};
+use crate::words::{ContentsWord, contents_word, nothing};
 use sqlite_items::Items;
 use std::alloc::Global;
 use wild_reading::{Cursor, Grammar, Stop, Token, read_until};
 
-#[tactic(auto, unfolding(crate::specs::Contents::is_unbuilt))]
-fn is_unbuilt(word: &Token<'_>) -> bool
-    ensures { result ≡ spec.is_unbuilt word.now }
+#[tactic(auto, using(wild_reading::proofs::Readers::reading), unfolding(crate::specs::Contents::keep_statement))]
+fn keep_statement(cursor: &mut Cursor<'_>, alloc: Global) -> Result<ContentsCommand, Stop>
+    ensures { Answers spec.keep_statement cursor.old cursor.new result }
 {
-    !word.is_quoted() && (is_provide(word.content()) || is_assert(word.content()))
+    let matcher = keep_matcher(cursor, alloc)?;
+    cursor.optional_symbol(b';')?;
+    Ok(ContentsCommand::Matcher(matcher))
+}
+
+#[tactic(auto, using(wild_reading::proofs::Readers::reading), unfolding(crate::specs::Contents::file_statement))]
+fn file_statement(
+    cursor: &mut Cursor<'_>,
+    alloc: Global,
+    file: &[u8],
+) -> Result<ContentsCommand, Stop>
+    ensures { Answers (spec.file_statement file.now) cursor.old cursor.new result }
+{
+    let matcher = file_matcher(cursor, alloc, false, file)?;
+    cursor.optional_symbol(b';')?;
+    Ok(ContentsCommand::Matcher(matcher))
+}
+
+fn word_statement(
+    cursor: &mut Cursor<'_>,
+    alloc: Global,
+    word: ContentsWord,
+) -> Result<ContentsCommand, Stop>
+    ensures { Answers (spec.word_statement word) cursor.old cursor.new result }
+{
+    match word {
+        ContentsWord::Keep => keep_statement(cursor, alloc),
+        ContentsWord::Provide | ContentsWord::ProvideHidden | ContentsWord::Assert => {
+            nothing(cursor)
+        }
+    }
+}
+
+#[tactic(auto, unfolding(crate::specs::Contents::behind))]
+fn behind(
+    cursor: &mut Cursor<'_>,
+    alloc: Global,
+    first: &Token<'_>,
+) -> Result<ContentsCommand, Stop>
+    ensures { Answers (spec.behind first.now) cursor.old cursor.new result }
+{
+    match contents_word(first) {
+        None => file_statement(cursor, alloc, first.content()),
+        Some(word) => word_statement(cursor, alloc, word),
+    }
 }
 
 #[tactic(auto, using(wild_reading::proofs::Readers::reading), unfolding(crate::specs::Contents::contents_statement))]
@@ -25,10 +69,7 @@ fn contents_statement(cursor: &mut Cursor<'_>, alloc: Global) -> Result<Contents
     ensures shorter { OnOk result (ahead cursor.new < ahead cursor.old) }
 {
     let first = cursor.word()?;
-    cursor.check(!is_unbuilt(&first))?;
-    let matcher = matcher(cursor, alloc, &first)?;
-    cursor.optional_symbol(b';')?;
-    Ok(ContentsCommand::Matcher(matcher))
+    behind(cursor, alloc, &first)
 }
 
 impl Grammar for ContentsCommand {

@@ -8,7 +8,7 @@ use crate::pattern::pattern_list;
 use crate::tree::Matcher;
 use std::alloc::Global;
 use wild_names::{Name, NoMemory};
-use wild_reading::{Cursor, Stop, Token};
+use wild_reading::{Cursor, Stop};
 
 #[tactic(auto, unfolding(crate::specs::Matcher::is_every_file))]
 fn is_every_file(content: &[u8]) -> bool
@@ -28,16 +28,9 @@ fn file_pattern(alloc: Global, content: &[u8]) -> Result<Option<Name>, NoMemory>
     }
 }
 
-#[tactic(auto, unfolding(crate::specs::Matcher::is_keep))]
-fn is_keep(word: &Token<'_>) -> bool
-    ensures { result ≡ spec.is_keep word.now }
-{
-    !word.is_quoted() && word.content() == b"KEEP".as_slice()
-}
-
-// What stands behind the token of the file.
+/// Reads what stands behind the token of the file.
 #[tactic(auto, using(wild_reading::proofs::Readers::reading), unfolding(crate::specs::Matcher::file_matcher))]
-fn file_matcher(
+pub fn file_matcher(
     cursor: &mut Cursor<'_>,
     alloc: Global,
     must_keep: bool,
@@ -54,9 +47,9 @@ fn file_matcher(
     })
 }
 
-// What stands behind KEEP.
+/// Reads what stands behind KEEP.
 #[tactic(auto, using(wild_reading::proofs::Readers::reading), unfolding(crate::specs::Matcher::keep_matcher))]
-fn keep_matcher(cursor: &mut Cursor<'_>, alloc: Global) -> Result<Matcher, Stop>
+pub fn keep_matcher(cursor: &mut Cursor<'_>, alloc: Global) -> Result<Matcher, Stop>
     ensures { Answers spec.keep_matcher cursor.old cursor.new result }
 {
     cursor.byte(b'(')?;
@@ -64,16 +57,4 @@ fn keep_matcher(cursor: &mut Cursor<'_>, alloc: Global) -> Result<Matcher, Stop>
     let matcher = file_matcher(cursor, alloc, true, file.content())?;
     cursor.symbol(b')')?;
     Ok(matcher)
-}
-
-/// Reads what stands behind the first token of a matcher.
-#[tactic(auto, using(wild_reading::proofs::Readers::choosing), unfolding(crate::specs::Matcher::matcher))]
-pub fn matcher(cursor: &mut Cursor<'_>, alloc: Global, first: &Token<'_>) -> Result<Matcher, Stop>
-    ensures { Answers (spec.matcher first.now) cursor.old cursor.new result }
-{
-    if is_keep(first) {
-        keep_matcher(cursor, alloc)
-    } else {
-        file_matcher(cursor, alloc, false, first.content())
-    }
 }

@@ -8,7 +8,7 @@ ghost use Rattle.wild_script.specs.Outermost as spec;
 use crate::assignment::{is_dot, open_value};
 use crate::provide::provided;
 use crate::tree::{Command, Location, SectionCommand, Sections};
-use crate::words::{is_assert, is_provide, is_provide_hidden, is_sections, is_to_come};
+use crate::words::{CommandWord, command_word, nothing};
 use sqlite_items::Items;
 use std::alloc::Global;
 use wild_names::Name;
@@ -90,44 +90,33 @@ fn assignment_command(cursor: &mut Cursor<'_>, alloc: Global, name: &[u8]) -> Re
     }
 }
 
-#[tactic(auto, using(wild_reading::proofs::Readers::reading), unfolding(crate::specs::Outermost::named_command))]
-fn named_command(cursor: &mut Cursor<'_>, alloc: Global, name: &[u8]) -> Result<Command, Stop>
-    ensures { Answers (spec.named_command name.now) cursor.old cursor.new result }
+fn word_command(cursor: &mut Cursor<'_>, alloc: Global, word: CommandWord) -> Result<Command, Stop>
+    ensures { Answers (spec.word_command word) cursor.old cursor.new result }
 {
-    cursor.check(!is_to_come(name))?;
-    assignment_command(cursor, alloc, name)
-}
-
-#[tactic(auto, using(wild_reading::proofs::Readers::choosing), unfolding(crate::specs::Outermost::provide_or_named))]
-fn provide_or_named(cursor: &mut Cursor<'_>, alloc: Global, name: &[u8]) -> Result<Command, Stop>
-    ensures { Answers (spec.provide_or_named name.now) cursor.old cursor.new result }
-{
-    if is_provide(name) {
-        provide_command(cursor, alloc, is_provide_hidden(name))
-    } else {
-        named_command(cursor, alloc, name)
+    match word {
+        CommandWord::Sections => sections_command(cursor, alloc),
+        CommandWord::Provide => provide_command(cursor, alloc, false),
+        CommandWord::ProvideHidden => provide_command(cursor, alloc, true),
+        CommandWord::Assert => assert_command(cursor, alloc),
+        CommandWord::Group
+        | CommandWord::Input
+        | CommandWord::AsNeeded
+        | CommandWord::OutputArch
+        | CommandWord::OutputFormat
+        | CommandWord::Entry
+        | CommandWord::Version
+        | CommandWord::Memory
+        | CommandWord::Phdrs => nothing(cursor),
     }
 }
 
-#[tactic(auto, using(wild_reading::proofs::Readers::choosing), unfolding(crate::specs::Outermost::assert_or_other))]
-fn assert_or_other(cursor: &mut Cursor<'_>, alloc: Global, name: &[u8]) -> Result<Command, Stop>
-    ensures { Answers (spec.assert_or_other name.now) cursor.old cursor.new result }
-{
-    if is_assert(name) {
-        assert_command(cursor, alloc)
-    } else {
-        provide_or_named(cursor, alloc, name)
-    }
-}
-
-#[tactic(auto, using(wild_reading::proofs::Readers::choosing), unfolding(crate::specs::Outermost::behind_word))]
+#[tactic(auto, unfolding(crate::specs::Outermost::behind_word))]
 fn behind_word(cursor: &mut Cursor<'_>, alloc: Global, name: &[u8]) -> Result<Command, Stop>
     ensures { Answers (spec.behind_word name.now) cursor.old cursor.new result }
 {
-    if is_sections(name) {
-        sections_command(cursor, alloc)
-    } else {
-        assert_or_other(cursor, alloc, name)
+    match command_word(name) {
+        None => assignment_command(cursor, alloc, name),
+        Some(word) => word_command(cursor, alloc, word),
     }
 }
 

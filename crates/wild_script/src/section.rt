@@ -9,7 +9,7 @@ use crate::assignment::{begins_assignment, closed_value, is_dot};
 use crate::contents::contents;
 use crate::provide::provided;
 use crate::tree::{Location, Section, SectionCommand, SymbolAssignment};
-use crate::words::{is_assert, is_provide, is_provide_hidden};
+use crate::words::{StatementWord, statement_word};
 use sqlite_items::Boxed;
 use std::alloc::Global;
 use wild_names::Name;
@@ -135,29 +135,27 @@ fn assignment_or_section(
     }
 }
 
-#[tactic(auto, using(wild_reading::proofs::Readers::choosing), unfolding(crate::specs::Section::provide_or_named))]
-fn provide_or_named(
+fn word_statement(
     cursor: &mut Cursor<'_>,
     alloc: Global,
-    name: &[u8],
+    word: StatementWord,
 ) -> Result<SectionCommand, Stop>
-    ensures { Answers (spec.provide_or_named name.now) cursor.old cursor.new result }
+    ensures { Answers (spec.word_statement word) cursor.old cursor.new result }
 {
-    if is_provide(name) {
-        provide_statement(cursor, alloc, is_provide_hidden(name))
-    } else {
-        assignment_or_section(cursor, alloc, name)
+    match word {
+        StatementWord::Assert => assert_statement(cursor, alloc),
+        StatementWord::Provide => provide_statement(cursor, alloc, false),
+        StatementWord::ProvideHidden => provide_statement(cursor, alloc, true),
     }
 }
 
-#[tactic(auto, using(wild_reading::proofs::Readers::choosing), unfolding(crate::specs::Section::behind))]
+#[tactic(auto, unfolding(crate::specs::Section::behind))]
 fn behind(cursor: &mut Cursor<'_>, alloc: Global, name: &[u8]) -> Result<SectionCommand, Stop>
     ensures { Answers (spec.behind name.now) cursor.old cursor.new result }
 {
-    if is_assert(name) {
-        assert_statement(cursor, alloc)
-    } else {
-        provide_or_named(cursor, alloc, name)
+    match statement_word(name) {
+        None => assignment_or_section(cursor, alloc, name),
+        Some(word) => word_statement(cursor, alloc, word),
     }
 }
 

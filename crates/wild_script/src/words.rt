@@ -1,68 +1,129 @@
 //! Words that statements begin with.
 
 ghost use Rattle.std.specs.Prelude.{◌≡◌};
+ghost use Rattle.std.specs.Str.{bytes_eq};
+ghost use Rattle.wild_reading.specs.Only.{Answers};
+ghost use Rattle.wild_reading.specs.Reader.{Nothing};
 ghost use Rattle.wild_script.specs.Words as spec;
 
-#[tactic(auto, unfolding(crate::specs::Words::is_sections))]
-pub fn is_sections(content: &[u8]) -> bool
-    ensures { result ≡ spec.is_sections content.now }
-{
-    content == b"SECTIONS".as_slice()
+use wild_reading::{Cursor, Stop, Token};
+
+/// What an outermost command begins with.
+#[derive(Clone, Copy, Debug, PartialEq, Eq)]
+pub enum CommandWord {
+    Group,
+    Input,
+    AsNeeded,
+    OutputArch,
+    OutputFormat,
+    Sections,
+    Entry,
+    Version,
+    Provide,
+    ProvideHidden,
+    Assert,
+    Memory,
+    Phdrs,
 }
 
-#[tactic(auto, unfolding(crate::specs::Words::is_assert))]
-pub fn is_assert(content: &[u8]) -> bool
-    ensures { result ≡ spec.is_assert content.now }
-{
-    content == b"ASSERT".as_slice()
+/// What a statement of SECTIONS begins with, if not with a name.
+#[derive(Clone, Copy, Debug, PartialEq, Eq)]
+pub enum StatementWord {
+    Assert,
+    Provide,
+    ProvideHidden,
 }
 
-#[tactic(auto, unfolding(crate::specs::Words::is_provide_hidden))]
-pub fn is_provide_hidden(content: &[u8]) -> bool
-    ensures { result ≡ spec.is_provide_hidden content.now }
-{
-    content == b"PROVIDE_HIDDEN".as_slice()
+/// What a statement in a section begins with, if not with a file.
+#[derive(Clone, Copy, Debug, PartialEq, Eq)]
+pub enum ContentsWord {
+    Provide,
+    ProvideHidden,
+    Assert,
+    Keep,
 }
 
-/// Whether it is PROVIDE or PROVIDE_HIDDEN.
-#[tactic(auto, unfolding(crate::specs::Words::is_provide))]
-pub fn is_provide(content: &[u8]) -> bool
-    ensures { result ≡ spec.is_provide content.now }
+fn is_word(content: &[u8], word: &[u8]) -> bool
+    ensures { result ≡ bytes_eq content.now word.now }
 {
-    content == b"PROVIDE".as_slice() || is_provide_hidden(content)
+    content == word
 }
 
-#[tactic(auto, unfolding(crate::specs::Words::is_of_files))]
-fn is_of_files(content: &[u8]) -> bool
-    ensures { result ≡ spec.is_of_files content.now }
+/// The word of an outermost command that these bytes are.
+pub fn command_word(content: &[u8]) -> Option<CommandWord>
+    ensures { result ≡ spec.command_word content.now }
 {
-    content == b"GROUP".as_slice()
-        || content == b"INPUT".as_slice()
-        || content == b"AS_NEEDED".as_slice()
+    if is_word(content, b"GROUP") {
+        Some(CommandWord::Group)
+    } else if is_word(content, b"INPUT") {
+        Some(CommandWord::Input)
+    } else if is_word(content, b"AS_NEEDED") {
+        Some(CommandWord::AsNeeded)
+    } else if is_word(content, b"OUTPUT_ARCH") {
+        Some(CommandWord::OutputArch)
+    } else if is_word(content, b"OUTPUT_FORMAT") {
+        Some(CommandWord::OutputFormat)
+    } else if is_word(content, b"SECTIONS") {
+        Some(CommandWord::Sections)
+    } else if is_word(content, b"ENTRY") {
+        Some(CommandWord::Entry)
+    } else if is_word(content, b"VERSION") {
+        Some(CommandWord::Version)
+    } else if is_word(content, b"PROVIDE") {
+        Some(CommandWord::Provide)
+    } else if is_word(content, b"PROVIDE_HIDDEN") {
+        Some(CommandWord::ProvideHidden)
+    } else if is_word(content, b"ASSERT") {
+        Some(CommandWord::Assert)
+    } else if is_word(content, b"MEMORY") {
+        Some(CommandWord::Memory)
+    } else if is_word(content, b"PHDRS") {
+        Some(CommandWord::Phdrs)
+    } else {
+        None
+    }
 }
 
-#[tactic(auto, unfolding(crate::specs::Words::is_of_output))]
-fn is_of_output(content: &[u8]) -> bool
-    ensures { result ≡ spec.is_of_output content.now }
+/// The word of a statement of SECTIONS that these bytes are.
+pub fn statement_word(content: &[u8]) -> Option<StatementWord>
+    ensures { result ≡ spec.statement_word content.now }
 {
-    content == b"OUTPUT_ARCH".as_slice()
-        || content == b"OUTPUT_FORMAT".as_slice()
-        || content == b"ENTRY".as_slice()
+    if is_word(content, b"ASSERT") {
+        Some(StatementWord::Assert)
+    } else if is_word(content, b"PROVIDE") {
+        Some(StatementWord::Provide)
+    } else if is_word(content, b"PROVIDE_HIDDEN") {
+        Some(StatementWord::ProvideHidden)
+    } else {
+        None
+    }
 }
 
-#[tactic(auto, unfolding(crate::specs::Words::is_of_layout))]
-fn is_of_layout(content: &[u8]) -> bool
-    ensures { result ≡ spec.is_of_layout content.now }
+/// The word of a statement in a section that a token is, which never stands in quotes.
+pub fn contents_word(token: &Token<'_>) -> Option<ContentsWord>
+    ensures { result ≡ spec.contents_word token.now }
 {
-    content == b"VERSION".as_slice()
-        || content == b"MEMORY".as_slice()
-        || content == b"PHDRS".as_slice()
+    if token.is_quoted() {
+        None
+    } else if is_word(token.content(), b"PROVIDE") {
+        Some(ContentsWord::Provide)
+    } else if is_word(token.content(), b"PROVIDE_HIDDEN") {
+        Some(ContentsWord::ProvideHidden)
+    } else if is_word(token.content(), b"ASSERT") {
+        Some(ContentsWord::Assert)
+    } else if is_word(token.content(), b"KEEP") {
+        Some(ContentsWord::Keep)
+    } else {
+        None
+    }
 }
 
-/// Whether it is a word of an outermost command that is not built yet.
-#[tactic(auto, unfolding(crate::specs::Words::is_to_come))]
-pub fn is_to_come(content: &[u8]) -> bool
-    ensures { result ≡ spec.is_to_come content.now }
+/// Reads nothing: a statement that is not built yet.
+#[tactic(auto, using(wild_reading::proofs::Readers::choosing))]
+pub fn nothing<T>(cursor: &Cursor<'_>) -> Result<T, Stop>
+    ensures { Answers Nothing cursor.now cursor.now result }
 {
-    is_of_files(content) || is_of_output(content) || is_of_layout(content)
+    Err(Stop::Syntax {
+        position: cursor.position(),
+    })
 }

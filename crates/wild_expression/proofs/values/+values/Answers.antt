@@ -3,7 +3,8 @@ use Rattle.wild_reading.proofs.Readers.{answers_ok, answers_err, bind_only, bind
 use Rattle.wild_reading.proofs.Families.{fold_step, fold_only, fold_refuses}
 use Rattle.wild_reading.proofs.Marks.{paid_on}
 use Rattle.wild_expression.specs.Grammar.{brackets, brackets_of, pair, pair_of, align_value, align_value_of, align_rest, align, align_of, segment_start, segment_start_of, assert, assert_of, signed, signed_of, alternatives, alternatives_of, chain, layer, step, step_of}
-use Rattle.wild_expression.proofs.Levels.{value_inner, layer_answers, sign_answers, chain_answers, ternary_answers, comparison_answers, alone_answers, whole_answers, before_answers, brackets_answers, question_answers, align_answers, pair_answers, segment_start_answers, assert_answers}
+use Rattle.wild_expression.proofs.Levels.{layer_answers, sign_answers, chain_answers, ternary_answers, comparison_answers, alone_answers, whole_answers}
+use Rattle.wild_expression.proofs.Depths.{value_inner}
 use Rattle.wild_expression.proofs.Weights.{enclosed_paid, room_there, operator_covers, byte_covers, paid_less, max_paid, covered_by, covered_as}
 use Rattle.wild_expression.proofs.values.+values.Goals as goal
 
@@ -86,30 +87,6 @@ pub assertion-returns-clause-paid : goal.assertion-returns-clause-paid
 assertion-returns-clause-paid t c =
     covered_as c.in_ok-asserted.ensures (paid_on c.in_ok-symbol-3.ensures.read.ok (paid_on c.in_ok-message.ensures.read.ok (paid_on c.in_ok-symbol-2.ensures.read.ok (paid_on c.in_ok-gap.ensures.ok c.in_ok-x.ensures.paid))))
 
-pub arguments-returns-in-Brackets-clause-read : goal.arguments-returns-in-Brackets-clause-read
-arguments-returns-in-Brackets-clause-read t c = brackets_answers c.in-Brackets.is c.brackets.ensures.read
-
-pub arguments-returns-in-Name-clause-read : goal.arguments-returns-in-Name-clause-read
-arguments-returns-in-Name-clause-read t c = question_answers c.in-Name.is c.ask_name.ensures.read
-
-pub arguments-returns-in-Align-clause-read : goal.arguments-returns-in-Align-clause-read
-arguments-returns-in-Align-clause-read t c = align_answers c.in-Align.is c.align.ensures.read
-
-pub arguments-returns-in-Pair-clause-read : goal.arguments-returns-in-Pair-clause-read
-arguments-returns-in-Pair-clause-read t c = pair_answers c.in-Pair.is c.pair.ensures.read
-
-pub arguments-returns-in-SegmentStart-clause-read : goal.arguments-returns-in-SegmentStart-clause-read
-arguments-returns-in-SegmentStart-clause-read t c = segment_start_answers c.in-SegmentStart.is c.segment_start.ensures.read
-
-pub arguments-returns-in-Assert-clause-read : goal.arguments-returns-in-Assert-clause-read
-arguments-returns-in-Assert-clause-read t c = assert_answers c.in-Assert.is c.assertion.ensures.read
-
-pub behind-returns-in-Whole-clause-read : goal.behind-returns-in-Whole-clause-read
-behind-returns-in-Whole-clause-read t c = whole_answers c.in-Whole.is
-
-pub behind-returns-in-Before-clause-read : goal.behind-returns-in-Before-clause-read
-behind-returns-in-Before-clause-read t c = before_answers c.in-Before.is c.arguments.ensures.read
-
 -- ---- signs and operators
 
 pub signed-returns-clause-read : goal.signed-returns-clause-read
@@ -185,3 +162,6 @@ value-returns-in-Sign-clause-read t c = sign_answers c.in-Sign.is c.sign_level.e
 
 pub value-returns-in-Ternary-clause-read : goal.value-returns-in-Ternary-clause-read
 value-returns-in-Ternary-clause-read t c = layer_answers c.args.level (search rules) c.layer.ensures.read
+
+pub behind-returns-in-Whole-clause-read : goal.behind-returns-in-Whole-clause-read
+behind-returns-in-Whole-clause-read t c = whole_answers c.in-Whole.is
