@@ -14,7 +14,7 @@ use Rattle.wild_value_spec.specs.declared.operator.Division.TheVariants as divis
 use Rattle.wild_value_spec.specs.declared.operator.Unary.{Unary}
 use Rattle.wild_value_spec.specs.declared.operator.Unary.TheVariants as unary
 use Rattle.wild_value_spec.specs.Answer.{◌>>=◌}
-use Rattle.wild_value_spec.specs.Numbers.{applied, divided_by, holds, decides, changed, truth, is_true}
+use Rattle.wild_value_spec.specs.Numbers.{arithmetic_result, divided_by, holds, decides, unary_result, truth, is_true}
 
 -- a number, or the first fault
 abbrev pub Constant : Type 0
@@ -26,56 +26,56 @@ zero_divisor division.Modulo = ModuloByZero
 
 -- ---- nodes over what their parts are, of which only those count that the word asks for
 
-unfoldable pub calculated : Arithmetic → Constant → Constant → Constant
-calculated o a b = a >>= (λ x. b >>= (λ y. Ok (applied o x y)))
+unfoldable pub arithmetic_value : Arithmetic → Constant → Constant → Constant
+arithmetic_value o a b = a >>= (λ x. b >>= (λ y. Ok (arithmetic_result o x y)))
 
 -- the divisor first, which must not be 0
-unfoldable pub divided : Division → Constant → Constant → Constant
-divided o a b = b >>= (λ y. if y == 0 then Err (zero_divisor o) else (a >>= (λ x. Ok (divided_by o x y))))
+unfoldable pub division_value : Division → Constant → Constant → Constant
+division_value o a b = b >>= (λ y. if y == 0 then Err (zero_divisor o) else (a >>= (λ x. Ok (divided_by o x y))))
 
-unfoldable pub compared : Comparison → Constant → Constant → Constant
-compared o a b = a >>= (λ x. b >>= (λ y. Ok (truth (holds o x y))))
+unfoldable pub comparison_value : Comparison → Constant → Constant → Constant
+comparison_value o a b = a >>= (λ x. b >>= (λ y. Ok (truth (holds o x y))))
 
 -- the right side only where the left one does not decide
-unfoldable pub connected : Connective → Constant → Constant → Constant
-connected o a b = a >>= (λ x. if decides o x then Ok (truth (is_true x)) else (b >>= (λ y. Ok (truth (is_true y)))))
+unfoldable pub connective_value : Connective → Constant → Constant → Constant
+connective_value o a b = a >>= (λ x. if decides o x then Ok (truth (is_true x)) else (b >>= (λ y. Ok (truth (is_true y)))))
 
-unfoldable pub turned : Unary → Constant → Constant
-turned o a = a >>= (λ x. Ok (changed o x))
+unfoldable pub unary_value : Unary → Constant → Constant
+unary_value o a = a >>= (λ x. Ok (unary_result o x))
 
 -- the condition, and then the chosen side only
-unfoldable pub choice : Constant → Constant → Constant → Constant
-choice c a b = c >>= (λ x. if x == 0 then b else a)
+unfoldable pub ternary_value : Constant → Constant → Constant → Constant
+ternary_value c a b = c >>= (λ x. if x == 0 then b else a)
 
 -- ---- trees, in which an operand is a row of one
 
 abbrev mutual
   pub const : Expression → Constant
   const (Number n) = Ok n
-  const (Add' p x q y) = calculated arithmetic.Add (row x) (row y)
-  const (Subtract' p x q y) = calculated arithmetic.Subtract (row x) (row y)
-  const (Multiply' p x q y) = calculated arithmetic.Multiply (row x) (row y)
-  const (BitwiseAnd' p x q y) = calculated arithmetic.BitwiseAnd (row x) (row y)
-  const (BitwiseOr' p x q y) = calculated arithmetic.BitwiseOr (row x) (row y)
-  const (BitwiseXor' p x q y) = calculated arithmetic.BitwiseXor (row x) (row y)
-  const (LeftShift' p x q y) = calculated arithmetic.LeftShift (row x) (row y)
-  const (RightShift' p x q y) = calculated arithmetic.RightShift (row x) (row y)
-  const (Min' p x q y) = calculated arithmetic.Min (row x) (row y)
-  const (Max' p x q y) = calculated arithmetic.Max (row x) (row y)
-  const (Divide' p x q y) = divided division.Divide (row x) (row y)
-  const (Modulo' p x q y) = divided division.Modulo (row x) (row y)
-  const (LessEqual' p x q y) = compared comparison.LessEqual (row x) (row y)
-  const (GreaterEqual' p x q y) = compared comparison.GreaterEqual (row x) (row y)
-  const (Equal' p x q y) = compared comparison.Equal (row x) (row y)
-  const (NotEqual' p x q y) = compared comparison.NotEqual (row x) (row y)
-  const (LessThan' p x q y) = compared comparison.LessThan (row x) (row y)
-  const (GreaterThan' p x q y) = compared comparison.GreaterThan (row x) (row y)
-  const (LogicalAnd' p x q y) = connected connective.LogicalAnd (row x) (row y)
-  const (LogicalOr' p x q y) = connected connective.LogicalOr (row x) (row y)
-  const (LogicalNot' p x) = turned unary.LogicalNot (row x)
-  const (BitwiseNot' p x) = turned unary.BitwiseNot (row x)
-  const (Negate' p x) = turned unary.Negate (row x)
-  const (Ternary' p x q y r z) = choice (row x) (row y) (row z)
+  const (Add' p x q y) = arithmetic_value arithmetic.Add (row x) (row y)
+  const (Subtract' p x q y) = arithmetic_value arithmetic.Subtract (row x) (row y)
+  const (Multiply' p x q y) = arithmetic_value arithmetic.Multiply (row x) (row y)
+  const (BitwiseAnd' p x q y) = arithmetic_value arithmetic.BitwiseAnd (row x) (row y)
+  const (BitwiseOr' p x q y) = arithmetic_value arithmetic.BitwiseOr (row x) (row y)
+  const (BitwiseXor' p x q y) = arithmetic_value arithmetic.BitwiseXor (row x) (row y)
+  const (LeftShift' p x q y) = arithmetic_value arithmetic.LeftShift (row x) (row y)
+  const (RightShift' p x q y) = arithmetic_value arithmetic.RightShift (row x) (row y)
+  const (Min' p x q y) = arithmetic_value arithmetic.Min (row x) (row y)
+  const (Max' p x q y) = arithmetic_value arithmetic.Max (row x) (row y)
+  const (Divide' p x q y) = division_value division.Divide (row x) (row y)
+  const (Modulo' p x q y) = division_value division.Modulo (row x) (row y)
+  const (LessEqual' p x q y) = comparison_value comparison.LessEqual (row x) (row y)
+  const (GreaterEqual' p x q y) = comparison_value comparison.GreaterEqual (row x) (row y)
+  const (Equal' p x q y) = comparison_value comparison.Equal (row x) (row y)
+  const (NotEqual' p x q y) = comparison_value comparison.NotEqual (row x) (row y)
+  const (LessThan' p x q y) = comparison_value comparison.LessThan (row x) (row y)
+  const (GreaterThan' p x q y) = comparison_value comparison.GreaterThan (row x) (row y)
+  const (LogicalAnd' p x q y) = connective_value connective.LogicalAnd (row x) (row y)
+  const (LogicalOr' p x q y) = connective_value connective.LogicalOr (row x) (row y)
+  const (LogicalNot' p x) = unary_value unary.LogicalNot (row x)
+  const (BitwiseNot' p x) = unary_value unary.BitwiseNot (row x)
+  const (Negate' p x) = unary_value unary.Negate (row x)
+  const (Ternary' p x q y r z) = ternary_value (row x) (row y) (row z)
   const e = Err NotConstant
 
   pub row : {m : _} → Row_of-Expression m → Constant

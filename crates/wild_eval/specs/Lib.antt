@@ -1,5 +1,5 @@
 pub mod Const
 pub mod Operators
 pub mod Plain
-pub mod Setting
-pub mod Table
+pub mod Scope
+pub mod Addresses

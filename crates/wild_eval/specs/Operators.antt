@@ -1,6 +1,6 @@
 -- The operator of a node of each kind; of any other node, the first of the kind.
 use Rattle.wild_expression_tree.specs.declared.tree.Expression.TheOpen.{Expression-F}
-use Rattle.wild_value_spec.specs.Setting.{Layer}
+use Rattle.wild_value_spec.specs.Scope.{Layer}
 use Rattle.wild_value_spec.specs.declared.operator.Arithmetic.{Arithmetic}
 use Rattle.wild_value_spec.specs.declared.operator.Arithmetic.TheVariants as arithmetic
 use Rattle.wild_value_spec.specs.declared.operator.Division.{Division}

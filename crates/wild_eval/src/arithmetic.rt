@@ -6,9 +6,9 @@ ghost use Rattle.wild_value_spec.specs.Numbers as spec;
 use wild_value_spec::{Arithmetic, Comparison, Connective, Division, Unary};
 
 /// Sums, differences and products wrap. Shifts are by the right side modulo 64.
-#[tactic(auto, unfolding(wild_value_spec::specs::Numbers::applied))]
+#[tactic(auto, unfolding(wild_value_spec::specs::Numbers::arithmetic_result))]
 pub fn apply(operator: Arithmetic, left: u64, right: u64) -> u64
-    ensures { result ≡ spec.applied operator left right }
+    ensures { result ≡ spec.arithmetic_result operator left right }
 {
     match operator {
         Arithmetic::Add => left.wrapping_add(right),
@@ -103,9 +103,9 @@ pub fn decides(operator: Connective, left: u64) -> bool
 }
 
 /// 1 for 0 and else 0, the other bits, or the number that gives 0 with this one.
-#[tactic(auto, unfolding(wild_value_spec::specs::Numbers::changed))]
+#[tactic(auto, unfolding(wild_value_spec::specs::Numbers::unary_result))]
 pub fn change(operator: Unary, number: u64) -> u64
-    ensures { result ≡ spec.changed operator number }
+    ensures { result ≡ spec.unary_result operator number }
 {
     match operator {
         Unary::LogicalNot => truth(!is_true(number)),

@@ -45,23 +45,23 @@ pub fn evaluate_const(e: &Expression) -> Result<u64, ConstFault>
         | Expression::LeftShift(a, b)
         | Expression::RightShift(a, b)
         | Expression::Min(a, b)
-        | Expression::Max(a, b) => { calculated(arithmetic(e), a.get(), b.get()) }
+        | Expression::Max(a, b) => { arithmetic_value(arithmetic(e), a.get(), b.get()) }
         Expression::Divide(a, b) | Expression::Modulo(a, b) => {
-            divided(division(e), a.get(), b.get())
+            division_value(division(e), a.get(), b.get())
         }
         Expression::LessEqual(a, b)
         | Expression::GreaterEqual(a, b)
         | Expression::Equal(a, b)
         | Expression::NotEqual(a, b)
         | Expression::LessThan(a, b)
-        | Expression::GreaterThan(a, b) => { compared(comparison(e), a.get(), b.get()) }
+        | Expression::GreaterThan(a, b) => { comparison_value(comparison(e), a.get(), b.get()) }
         Expression::LogicalAnd(a, b) | Expression::LogicalOr(a, b) => {
-            connected(connective(e), a.get(), b.get())
+            connective_value(connective(e), a.get(), b.get())
         }
         Expression::LogicalNot(a) | Expression::BitwiseNot(a) | Expression::Negate(a) => {
-            turned(unary(e), a.get())
+            unary_value(unary(e), a.get())
         }
-        Expression::Ternary(condition, a, b) => choice(condition.get(), a.get(), b.get()),
+        Expression::Ternary(condition, a, b) => ternary_value(condition.get(), a.get(), b.get()),
         Expression::LocationCounter
         | Expression::SizeofHeaders
         | Expression::Symbol(_)
@@ -80,9 +80,9 @@ pub fn evaluate_const(e: &Expression) -> Result<u64, ConstFault>
 
 // Both sides, the left one first.
 #[cycle(constants)]
-#[tactic(auto, unfolding(crate::specs::Const::calculated))]
-fn calculated(operator: Arithmetic, a: &Expression, b: &Expression) -> Result<u64, ConstFault>
-    ensures { result ≡ spec.calculated operator (spec.const a.now) (spec.const b.now) }
+#[tactic(auto, unfolding(crate::specs::Const::arithmetic_value))]
+fn arithmetic_value(operator: Arithmetic, a: &Expression, b: &Expression) -> Result<u64, ConstFault>
+    ensures { result ≡ spec.arithmetic_value operator (spec.const a.now) (spec.const b.now) }
 {
     let x = evaluate_const(a)?;
     let y = evaluate_const(b)?;
@@ -91,9 +91,9 @@ fn calculated(operator: Arithmetic, a: &Expression, b: &Expression) -> Result<u6
 
 // The divisor first, which must not be 0.
 #[cycle(constants)]
-#[tactic(auto, unfolding(crate::specs::Const::divided))]
-fn divided(operator: Division, a: &Expression, b: &Expression) -> Result<u64, ConstFault>
-    ensures { result ≡ spec.divided operator (spec.const a.now) (spec.const b.now) }
+#[tactic(auto, unfolding(crate::specs::Const::division_value))]
+fn division_value(operator: Division, a: &Expression, b: &Expression) -> Result<u64, ConstFault>
+    ensures { result ≡ spec.division_value operator (spec.const a.now) (spec.const b.now) }
 {
     let y = evaluate_const(b)?;
     if y == 0 {
@@ -105,9 +105,9 @@ fn divided(operator: Division, a: &Expression, b: &Expression) -> Result<u64, Co
 
 // Both sides, the left one first.
 #[cycle(constants)]
-#[tactic(auto, unfolding(crate::specs::Const::compared))]
-fn compared(operator: Comparison, a: &Expression, b: &Expression) -> Result<u64, ConstFault>
-    ensures { result ≡ spec.compared operator (spec.const a.now) (spec.const b.now) }
+#[tactic(auto, unfolding(crate::specs::Const::comparison_value))]
+fn comparison_value(operator: Comparison, a: &Expression, b: &Expression) -> Result<u64, ConstFault>
+    ensures { result ≡ spec.comparison_value operator (spec.const a.now) (spec.const b.now) }
 {
     let x = evaluate_const(a)?;
     let y = evaluate_const(b)?;
@@ -116,9 +116,9 @@ fn compared(operator: Comparison, a: &Expression, b: &Expression) -> Result<u64,
 
 // The right side only where the left one does not decide.
 #[cycle(constants)]
-#[tactic(auto, unfolding(crate::specs::Const::connected))]
-fn connected(operator: Connective, a: &Expression, b: &Expression) -> Result<u64, ConstFault>
-    ensures { result ≡ spec.connected operator (spec.const a.now) (spec.const b.now) }
+#[tactic(auto, unfolding(crate::specs::Const::connective_value))]
+fn connective_value(operator: Connective, a: &Expression, b: &Expression) -> Result<u64, ConstFault>
+    ensures { result ≡ spec.connective_value operator (spec.const a.now) (spec.const b.now) }
 {
     let x = evaluate_const(a)?;
     if decides(operator, x) {
@@ -130,9 +130,9 @@ fn connected(operator: Connective, a: &Expression, b: &Expression) -> Result<u64
 
 // One side.
 #[cycle(constants)]
-#[tactic(auto, unfolding(crate::specs::Const::turned))]
-fn turned(operator: Unary, a: &Expression) -> Result<u64, ConstFault>
-    ensures { result ≡ spec.turned operator (spec.const a.now) }
+#[tactic(auto, unfolding(crate::specs::Const::unary_value))]
+fn unary_value(operator: Unary, a: &Expression) -> Result<u64, ConstFault>
+    ensures { result ≡ spec.unary_value operator (spec.const a.now) }
 {
     let x = evaluate_const(a)?;
     Ok(change(operator, x))
@@ -140,9 +140,9 @@ fn turned(operator: Unary, a: &Expression) -> Result<u64, ConstFault>
 
 // The condition, and then the chosen side only.
 #[cycle(constants)]
-#[tactic(auto, unfolding(crate::specs::Const::choice))]
-fn choice(condition: &Expression, a: &Expression, b: &Expression) -> Result<u64, ConstFault>
-    ensures { result ≡ spec.choice (spec.const condition.now) (spec.const a.now) (spec.const b.now) }
+#[tactic(auto, unfolding(crate::specs::Const::ternary_value))]
+fn ternary_value(condition: &Expression, a: &Expression, b: &Expression) -> Result<u64, ConstFault>
+    ensures { result ≡ spec.ternary_value (spec.const condition.now) (spec.const a.now) (spec.const b.now) }
 {
     let x = evaluate_const(condition)?;
     if x == 0 {

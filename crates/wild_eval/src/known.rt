@@ -1,17 +1,17 @@
-//! What a reader's table knows, and the faults of what it does not.
+//! What an evaluator's table knows, and the faults of what it does not.
 
 ghost use Rattle.std.specs.Prelude.{Ok};
 ghost use Rattle.wild_eval.specs.Plain as spec;
 ghost use Rattle.wild_value_spec.specs.Answer.{Returns};
 
-use crate::plain::Reader;
+use crate::plain::Evaluator;
 use wild_base::{Fault, Name};
 
-impl Reader<'_> {
+impl Evaluator<'_> {
     fn section_name(&self, section: usize) -> Result<Name, Fault>
-        ensures { Returns result (Ok ((spec.setting self.now).section_name section)) }
+        ensures { Returns result (Ok ((spec.scope self.now).section_name section)) }
     {
-        Ok(Name::new(self.alloc, self.names.name_of(section))?)
+        Ok(Name::new(self.alloc, self.scope.name_of(section))?)
     }
 
     // The same name once more.
@@ -25,7 +25,7 @@ impl Reader<'_> {
     pub(crate) fn dot(&self, place: usize) -> Result<u64, Fault>
         ensures { Returns result (spec.dot_of self.now place) }
     {
-        match self.table.known_dot(place) {
+        match self.addresses.known_dot(place) {
             Some(dot) => Ok(dot),
             None => Err(Fault::NotLaidOut {
                 statement: self.statement,
@@ -38,7 +38,7 @@ impl Reader<'_> {
     pub(crate) fn start(&self, section: usize) -> Result<u64, Fault>
         ensures { Returns result (spec.start_of self.now section) }
     {
-        match self.table.known_start(section) {
+        match self.addresses.known_start(section) {
             Some(number) => Ok(number),
             None => Err(Fault::NotLaidOut {
                 statement: self.statement,
@@ -51,7 +51,7 @@ impl Reader<'_> {
     pub(crate) fn load(&self, section: usize) -> Result<u64, Fault>
         ensures { Returns result (spec.load_of self.now section) }
     {
-        match self.table.known_load(section) {
+        match self.addresses.known_load(section) {
             Some(number) => Ok(number),
             None => Err(Fault::NotLaidOut {
                 statement: self.statement,
@@ -64,7 +64,7 @@ impl Reader<'_> {
     pub(crate) fn end(&self, section: usize) -> Result<u64, Fault>
         ensures { Returns result (spec.end_of self.now section) }
     {
-        match self.table.known_end(section) {
+        match self.addresses.known_end(section) {
             Some(number) => Ok(number),
             None => Err(Fault::NotLaidOut {
                 statement: self.statement,
@@ -78,7 +78,7 @@ impl Reader<'_> {
     pub(crate) fn address(&self, name: &Name, row: usize) -> Result<u64, Fault>
         ensures { Returns result (spec.row_of self.now name.now row) }
     {
-        match self.table.known_address(row) {
+        match self.addresses.known_address(row) {
             Some(address) => Ok(address),
             None => Err(Fault::NotLaidOut {
                 statement: self.statement,

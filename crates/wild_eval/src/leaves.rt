@@ -1,17 +1,17 @@
-//! What a reader does without looking into a part.
+//! What an evaluator does without looking into a part.
 
 ghost use Rattle.std.specs.Prelude.{◌≡◌, ◌<◌, ◌≤◌, ◌+◌, max, IfOk};
 ghost use Rattle.wild_eval.specs.Plain as spec;
 ghost use Rattle.wild_value_spec.specs.Answer.{Returns};
-ghost use Rattle.wild_value_spec.specs.Value.{multiple_from, raised, sum_of};
+ghost use Rattle.wild_value_spec.specs.Value.{multiple_from, multiple_value, sum_of};
 
 use crate::arithmetic::{holds, truth};
 use crate::marks::{absolutely, bare, over_both, relatively, unmarked_over};
-use crate::plain::Reader;
+use crate::plain::Evaluator;
 use wild_base::Fault;
 use wild_value_spec::{Comparison, Point, Value};
 
-impl Reader<'_> {
+impl Evaluator<'_> {
     #[tactic(auto, unfolding(wild_value_spec::specs::Value::sum_of))]
     pub(crate) fn sum(&self, left: u64, right: u64) -> Result<u64, Fault>
         ensures { Returns result (sum_of left right) }
@@ -33,9 +33,9 @@ impl Reader<'_> {
         }
     }
 
-    #[tactic(auto, unfolding(wild_value_spec::specs::Value::based))]
-    pub(crate) fn based(&self, point: Point, value: Value) -> Result<u64, Fault>
-        ensures { Returns result (spec.based self.now point value) }
+    #[tactic(auto, unfolding(wild_value_spec::specs::Value::full_number))]
+    pub(crate) fn full_number(&self, point: Point, value: Value) -> Result<u64, Fault>
+        ensures { Returns result (spec.full_number self.now point value) }
     {
         match point.section {
             None => Ok(value.number),
@@ -75,8 +75,8 @@ impl Reader<'_> {
     }
 
     // A comparison, of which the left side is known with its full value.
-    #[tactic(auto, unfolding(wild_value_spec::specs::Value::judged))]
-    pub(crate) fn judged(
+    #[tactic(auto, unfolding(wild_value_spec::specs::Value::judgement))]
+    pub(crate) fn judgement(
         &self,
         comparison: Comparison,
         point: Point,
@@ -86,20 +86,20 @@ impl Reader<'_> {
     ) -> Result<Value, Fault>
         requires left_height { x.height < 1024 }
         requires right_height { y.height < 1024 }
-        ensures value { Returns result (spec.judged self.now comparison point first x y) }
+        ensures value { Returns result (spec.judgement self.now comparison point first x y) }
         ensures height { IfOk result (λ v. v.height ≡ max x.height y.height + 1) }
     {
-        let second = self.based(point, y)?;
+        let second = self.full_number(point, y)?;
         Ok(unmarked_over(truth(holds(comparison, first, second)), x, y))
     }
 
     // The next multiple of an alignment from a value on.
-    #[tactic(auto, unfolding(wild_value_spec::specs::Value::raised))]
-    pub(crate) fn raised(&self, align: Value, x: Value) -> Result<Value, Fault>
+    #[tactic(auto, unfolding(wild_value_spec::specs::Value::multiple_value))]
+    pub(crate) fn multiple_value(&self, align: Value, x: Value) -> Result<Value, Fault>
         requires nonzero { 0 < align.number }
         requires align_height { align.height < 1024 }
         requires value_height { x.height < 1024 }
-        ensures value { Returns result (raised align x) }
+        ensures value { Returns result (multiple_value align x) }
         ensures height { IfOk result (λ v. v.height ≡ max align.height x.height + 1) }
     {
         let number = self.multiple_from(x.number, align.number)?;

@@ -1,21 +1,21 @@
 //! Values of expressions over what is known of a layout, and the numbers of constants.
 #![tactic(auto)]
 
+mod addresses;
 mod arithmetic;
 mod constant;
 mod known;
 mod leaves;
 mod marks;
 mod named;
-mod names;
 mod operators;
 mod plain;
-mod table;
+mod scope;
 
+pub use addresses::{Addresses, Numbers};
 pub use constant::{ConstFault, evaluate_const};
-pub use names::{Definition, Entry, Names, Path};
-pub use plain::Reader;
-pub use table::{Numbers, Table};
+pub use plain::Evaluator;
+pub use scope::{Definition, Path, Scope, SymbolEntry};
 pub use wild_value_spec::{Point, Value};
 
 #[cfg(test)]

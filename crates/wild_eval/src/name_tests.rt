@@ -1,4 +1,4 @@
-use crate::{Definition, Entry, Names, Path, Point, Reader, Table};
+use crate::{Addresses, Definition, Evaluator, Path, Point, Scope, SymbolEntry};
 use sqlite_items::Boxed;
 use std::alloc::Global;
 use std::test::Fail;
@@ -78,17 +78,17 @@ fn sample(alloc: Global, index: usize) -> Result<Tree, NoMemory> {
 }
 
 // Section 0, `.a`, is 0x1000 to 0x1020 and is loaded at 0x8000. Row 3 stands in it, and row 4 below it.
-fn learn(alloc: Global) -> Result<Table, NoMemory> {
-    let mut table = Table::new(alloc);
-    table.learn_start(0, 0x1000)?;
-    table.learn_load(0, 0x8000)?;
-    table.learn_end(0, 0x1020)?;
-    table.learn_address(3, 0x1008)?;
-    table.learn_address(4, 0xff0)?;
-    Ok(table)
+fn learn(alloc: Global) -> Result<Addresses, NoMemory> {
+    let mut addresses = Addresses::new(alloc);
+    addresses.learn_start(0, 0x1000)?;
+    addresses.learn_load(0, 0x8000)?;
+    addresses.learn_end(0, 0x1020)?;
+    addresses.learn_address(3, 0x1008)?;
+    addresses.learn_address(4, 0xff0)?;
+    Ok(addresses)
 }
 
-// What is asked of a reader: the full value of a tree, the height of its value within so many levels, or a test of it.
+// What is asked of an evaluator: the full value of a tree, the height of its value within so many levels, or a test of it.
 #[derive(Clone, Copy)]
 enum Question {
     Full,
@@ -114,22 +114,22 @@ fn number_of(fault: &Fault) -> u32 {
 
 fn answer(
     alloc: Global,
-    reader: &Reader<'_>,
+    evaluator: &Evaluator<'_>,
     index: usize,
     question: Question,
     point: Point,
 ) -> Result<Result<u64, u32>, NoMemory> {
     let tree = sample(alloc, index)?;
     let found = match question {
-        Question::Full => reader.full(&Path::Start, tree.get(), point),
+        Question::Full => evaluator.full(&Path::Start, tree.get(), point),
         Question::Height(levels) => {
             let levels = levels.min(1024);
-            match reader.value(levels, &Path::Start, tree.get(), point) {
+            match evaluator.value(levels, &Path::Start, tree.get(), point) {
                 Ok(value) => Ok(value.height as u64),
                 Err(fault) => Err(fault),
             }
         }
-        Question::Test => match reader.check(&command(alloc, tree)?, point) {
+        Question::Test => match evaluator.check(&command(alloc, tree)?, point) {
             Ok(value) => Ok(value.number),
             Err(fault) => Err(fault),
         },
@@ -148,8 +148,8 @@ fn number_names(alloc: Global, names: &[&Name]) -> Result<Numbering, NoMemory> {
     Ok(numbers)
 }
 
-fn script_entry<'a>(name: &'a Name, value: &'a Expression) -> Entry<'a> {
-    Entry {
+fn script_entry<'a>(name: &'a Name, value: &'a Expression) -> SymbolEntry<'a> {
+    SymbolEntry {
         name,
         definition: Definition::OfScript {
             value,
@@ -158,8 +158,8 @@ fn script_entry<'a>(name: &'a Name, value: &'a Expression) -> Entry<'a> {
     }
 }
 
-fn row_entry<'a>(name: &'a Name, row: usize) -> Entry<'a> {
-    Entry {
+fn row_entry<'a>(name: &'a Name, row: usize) -> SymbolEntry<'a> {
+    SymbolEntry {
         name,
         definition: Definition::OfRow {
             row,
@@ -206,7 +206,7 @@ fn ask(
     point: Point,
 ) -> Result<Result<u64, u32>, NoMemory> {
     let script = make_script(alloc)?;
-    let table = learn(alloc)?;
+    let addresses = learn(alloc)?;
     let section = &script.section;
     let symbols = [&script.five, &script.a, &script.b, &script.row, &script.low];
     let entries = [
@@ -216,7 +216,7 @@ fn ask(
         row_entry(&script.row, 3),
         row_entry(&script.low, 4),
     ];
-    let names = Names {
+    let scope = Scope {
         sections: &[section],
         section_numbers: &number_names(alloc, &[section])?,
         alignments: &[USIZE],
@@ -224,13 +224,13 @@ fn ask(
         entries: &entries,
         script: b"a\nb\n(",
     };
-    let reader = Reader {
+    let evaluator = Evaluator {
         alloc,
-        names: &names,
-        table: &table,
+        scope: &scope,
+        addresses: &addresses,
         statement: 7,
     };
-    answer(alloc, &reader, index, question, point)
+    answer(alloc, &evaluator, index, question, point)
 }
 
 #[test]

@@ -1,4 +1,4 @@
-//! What a reader makes of the names of sections and symbols without looking into a part.
+//! What an evaluator makes of the names of sections and symbols without looking into a part.
 
 ghost use Rattle.std.specs.Prelude.{◌≡◌, ◌<◌, ◌≤◌, ◌+◌, IfOk, Err, Some};
 ghost use Rattle.wild_names.specs.declared.fault.Fault.TheVariants as fault;
@@ -7,12 +7,12 @@ ghost use Rattle.wild_value_spec.specs.Answer.{Returns};
 
 use crate::arithmetic::truth;
 use crate::marks::{absolutely, absolutely_over, relatively_over, unmarked};
-use crate::plain::Reader;
+use crate::plain::Evaluator;
 use wild_base::{Fault, Name};
 use wild_expression_tree::AssertCommand;
 use wild_value_spec::{Point, Value};
 
-impl Reader<'_> {
+impl Evaluator<'_> {
     // End minus start, the end first.
     #[tactic(auto, unfolding(wild_value_spec::specs::Value::extent))]
     fn extent(&self, section: usize) -> Result<Value, Fault>
@@ -29,7 +29,7 @@ impl Reader<'_> {
         ensures value { Returns result (spec.size self.now name.now) }
         ensures height { IfOk result (λ v. v.height ≤ 1) }
     {
-        match self.names.section(name) {
+        match self.scope.section(name) {
             Some(section) => self.extent(section),
             None => Ok(unmarked(0)),
         }
@@ -40,8 +40,8 @@ impl Reader<'_> {
         ensures value { result ≡ spec.alignment self.now name.now }
         ensures height { result.height ≤ 1 }
     {
-        match self.names.section(name) {
-            Some(section) => unmarked(self.names.alignment(section).value()),
+        match self.scope.section(name) {
+            Some(section) => unmarked(self.scope.alignment(section).value()),
             None => unmarked(0),
         }
     }
@@ -60,7 +60,7 @@ impl Reader<'_> {
         ensures value { Returns result (spec.start_named self.now name.now) }
         ensures height { IfOk result (λ v. v.height ≤ 1) }
     {
-        match self.names.section(name) {
+        match self.scope.section(name) {
             Some(section) => Ok(absolutely(self.start(section)?)),
             None => self.unknown_section(name),
         }
@@ -71,18 +71,18 @@ impl Reader<'_> {
         ensures value { Returns result (spec.load_named self.now name.now) }
         ensures height { IfOk result (λ v. v.height ≤ 1) }
     {
-        match self.names.section(name) {
+        match self.scope.section(name) {
             Some(section) => Ok(absolutely(self.load(section)?)),
             None => self.unknown_section(name),
         }
     }
 
-    #[tactic(auto, unfolding(wild_value_spec::specs::Value::defined))]
-    pub(crate) fn defined(&self, name: &Name) -> Value
-        ensures value { result ≡ spec.defined self.now name.now }
+    #[tactic(auto, unfolding(wild_value_spec::specs::Value::defined_value))]
+    pub(crate) fn defined_value(&self, name: &Name) -> Value
+        ensures value { result ≡ spec.defined_value self.now name.now }
         ensures height { result.height ≤ 1 }
     {
-        unmarked(truth(self.names.definition(name).is_some()))
+        unmarked(truth(self.scope.definition(name).is_some()))
     }
 
     // An address counted from the start of its section.
@@ -107,7 +107,7 @@ impl Reader<'_> {
     }
 
     // The address of a symbol of a section, as it is read in one.
-    fn used_in(
+    fn symbol_value_in(
         &self,
         name: &Name,
         address: u64,
@@ -116,7 +116,7 @@ impl Reader<'_> {
         other: usize,
     ) -> Result<Value, Fault>
         requires { height < 1024 }
-        ensures value { Returns result (spec.used_in self.now name.now address height (Some section) (Some other)) }
+        ensures value { Returns result (spec.symbol_value_in self.now name.now address height (Some section) (Some other)) }
         ensures height { IfOk result (λ v. v.height ≡ height + 1) }
     {
         if section != other {
@@ -127,8 +127,8 @@ impl Reader<'_> {
     }
 
     // The address of a symbol of that section, as it is read at a point.
-    #[tactic(auto, unfolding(wild_value_spec::specs::Value::used))]
-    pub(crate) fn used(
+    #[tactic(auto, unfolding(wild_value_spec::specs::Value::symbol_value))]
+    pub(crate) fn symbol_value(
         &self,
         name: &Name,
         section: Option<usize>,
@@ -137,11 +137,13 @@ impl Reader<'_> {
         height: usize,
     ) -> Result<Value, Fault>
         requires { height < 1024 }
-        ensures value { Returns result (spec.used self.now name.now section point address height) }
+        ensures value { Returns result (spec.symbol_value self.now name.now section point address height) }
         ensures height { IfOk result (λ v. v.height ≡ height + 1) }
     {
         match (section, point.section) {
-            (Some(section), Some(other)) => self.used_in(name, address, height, section, other),
+            (Some(section), Some(other)) => self.symbol_value_in(
+                name, address, height, section, other,
+            ),
             _ => Ok(absolutely_over(address, height)),
         }
     }
@@ -161,7 +163,7 @@ impl Reader<'_> {
     {
         let start = self.address(name, row)?;
         let address = self.sum(start, offset)?;
-        self.used(name, Some(section), point, address, 0)
+        self.symbol_value(name, Some(section), point, address, 0)
     }
 
     pub(crate) fn unknown_symbol(&self, name: &Name) -> Result<Value, Fault>
@@ -183,11 +185,11 @@ impl Reader<'_> {
     }
 
     pub(crate) fn failed(&self, command: &AssertCommand) -> Result<Value, Fault>
-        ensures value { Returns result (Err (fault.AssertFailed ((spec.setting self.now).line command.now.at) command.now.message)) }
+        ensures value { Returns result (Err (fault.AssertFailed ((spec.scope self.now).line command.now.at) command.now.message)) }
         ensures height { IfOk result (λ v. v.height ≤ 1) }
     {
         Err(Fault::AssertFailed {
-            line: self.names.line(command.at),
+            line: self.scope.line(command.at),
             message: self.copied(&command.message)?,
         })
     }

@@ -2,16 +2,16 @@
 
 ghost use Rattle.std.specs.Prelude.{◌≡◌, ◌<◌, ◌≤◌, ◌+◌, IfOk};
 ghost use Rattle.wild_eval.specs.Plain as spec;
-ghost use Rattle.wild_eval.specs.Setting.{path_of, setting_of, shown_definition};
-ghost use Rattle.wild_eval.specs.Table.{known_of};
+ghost use Rattle.wild_eval.specs.Scope.{path_of, scope_of, shown_definition};
+ghost use Rattle.wild_eval.specs.Addresses.{known_of};
 ghost use Rattle.wild_value_spec.specs.Answer.{Returns};
 ghost use Rattle.wild_value_spec.specs.Value as value;
 
+use crate::addresses::Addresses;
 use crate::arithmetic::{apply, change, decides, divide, truth_of};
 use crate::marks::{over, over_both, unmarked};
-use crate::names::{Definition, Names, Path};
 use crate::operators::{arithmetic, comparison, connective, division, unary};
-use crate::table::Table;
+use crate::scope::{Definition, Path, Scope};
 use sqlite_items::Boxed;
 use std::alloc::Global;
 use wild_base::{Fault, Name};
@@ -23,17 +23,17 @@ const MAX_HEIGHT: usize = 1024;
 
 /// Reads expressions over what is known of a layout, at the turn of a statement.
 #[derive(Drop)]
-pub struct Reader<'a> {
+pub struct Evaluator<'a> {
     pub alloc: Global,
-    pub names: &'a Names<'a>,
-    pub table: &'a Table,
+    pub scope: &'a Scope<'a>,
+    pub addresses: &'a Addresses,
     /// The number of the statement, which faults name.
     pub statement: usize,
 }
 
-#[tactic(auto, unfolding(wild_value_spec::specs::Value::chosen))]
-fn chosen<'a>(condition: u64, first: &'a Expression, second: &'a Expression) -> &'a Expression
-    ensures { result.now ≡ value.chosen condition first.now second.now }
+#[tactic(auto, unfolding(wild_value_spec::specs::Value::chosen_side))]
+fn chosen_side<'a>(condition: u64, first: &'a Expression, second: &'a Expression) -> &'a Expression
+    ensures { result.now ≡ value.chosen_side condition first.now second.now }
 {
     if condition == 0 { second } else { first }
 }
@@ -47,22 +47,22 @@ fn zero_divisor(operator: Division, statement: usize) -> Fault
     }
 }
 
-impl Reader<'_> {
+impl Evaluator<'_> {
     /// The number that an expression stands for at a point.
     #[tactic(auto, unfolding(wild_value_spec::specs::Value::full))]
     pub fn full(&self, path: &Path<'_>, expression: &Expression, point: Point) -> Result<u64, Fault>
-        ensures { Returns result (value.full (setting_of self.now.names.now) self.now.statement (known_of self.now.table.now) 1024 (path_of path.now) expression.now point) }
+        ensures { Returns result (value.full (scope_of self.now.scope.now) self.now.statement (known_of self.now.addresses.now) 1024 (path_of path.now) expression.now point) }
     {
         let value = self.value(MAX_HEIGHT, path, expression, point)?;
-        self.based(point, value)
+        self.full_number(point, value)
     }
 
     /// What an ASSERT statement is worth at a point. Fails where its condition is 0.
-    #[tactic(auto, unfolding(wild_value_spec::specs::Value::tested))]
+    #[tactic(auto, unfolding(wild_value_spec::specs::Value::assert_statement))]
     pub fn check(&self, command: &AssertCommand, point: Point) -> Result<Value, Fault>
-        ensures { Returns result (value.tested (setting_of self.now.names.now) self.now.statement (known_of self.now.table.now) command.now point) }
+        ensures { Returns result (value.assert_statement (scope_of self.now.scope.now) self.now.statement (known_of self.now.addresses.now) command.now point) }
     {
-        self.asserted(MAX_HEIGHT - 1, &Path::Start, command, point)
+        self.assert_value(MAX_HEIGHT - 1, &Path::Start, command, point)
     }
 
     /// The value of an expression at a point, where this many levels are left.
@@ -76,7 +76,7 @@ impl Reader<'_> {
         point: Point,
     ) -> Result<Value, Fault>
         requires { levels ≤ 1024 }
-        ensures value { Returns result (value.value (setting_of self.now.names.now) self.now.statement (known_of self.now.table.now) levels (path_of path.now) expression.now point) }
+        ensures value { Returns result (value.value (scope_of self.now.scope.now) self.now.statement (known_of self.now.addresses.now) levels (path_of path.now) expression.now point) }
         ensures height { IfOk result (λ v. v.height ≤ levels) }
     {
         if levels == 0 {
@@ -112,10 +112,10 @@ impl Reader<'_> {
             | Expression::RightShift(a, b)
             | Expression::Min(a, b)
             | Expression::Max(a, b) => {
-                self.calculated(levels, path, arithmetic(tree), a.get(), b.get(), point)
+                self.arithmetic_value(levels, path, arithmetic(tree), a.get(), b.get(), point)
             }
             Expression::Divide(a, b) | Expression::Modulo(a, b) => {
-                self.divided(levels, path, division(tree), a.get(), b.get(), point)
+                self.division_value(levels, path, division(tree), a.get(), b.get(), point)
             }
             Expression::LessEqual(a, b)
             | Expression::GreaterEqual(a, b)
@@ -123,27 +123,27 @@ impl Reader<'_> {
             | Expression::NotEqual(a, b)
             | Expression::LessThan(a, b)
             | Expression::GreaterThan(a, b) => {
-                self.compared(levels, path, comparison(tree), a.get(), b.get(), point)
+                self.comparison_value(levels, path, comparison(tree), a.get(), b.get(), point)
             }
             Expression::LogicalAnd(a, b) | Expression::LogicalOr(a, b) => {
-                self.connected(levels, path, connective(tree), a.get(), b.get(), point)
+                self.connective_value(levels, path, connective(tree), a.get(), b.get(), point)
             }
             Expression::LogicalNot(a) | Expression::BitwiseNot(a) | Expression::Negate(a) => {
-                self.turned(levels, path, unary(tree), a.get(), point)
+                self.unary_value(levels, path, unary(tree), a.get(), point)
             }
             Expression::Ternary(condition, a, b) => {
-                self.choice(levels, path, condition.get(), a.get(), b.get(), point)
+                self.ternary_value(levels, path, condition.get(), a.get(), b.get(), point)
             }
             Expression::Align(alignment, held) => {
-                self.aligned(levels, path, alignment.get(), held, point)
+                self.align_value(levels, path, alignment.get(), held, point)
             }
             Expression::Symbol(name) => self.symbol(levels, path, name, point),
             Expression::Sizeof(name) => self.size(name),
             Expression::Alignof(name) => Ok(self.alignment(name)),
             Expression::Addr(name) => self.start_named(name),
             Expression::Loadaddr(name) => self.load_named(name),
-            Expression::Defined(name) => Ok(self.defined(name)),
-            Expression::Assert(command) => self.asserted(levels, path, command, point),
+            Expression::Defined(name) => Ok(self.defined_value(name)),
+            Expression::Assert(command) => self.assert_value(levels, path, command, point),
             _ => Err(Fault::Unsupported {
                 index: self.statement,
             }),
@@ -152,8 +152,8 @@ impl Reader<'_> {
 
     // Both sides, the left one first.
     #[cycle(evaluation)]
-    #[tactic(auto, unfolding(wild_value_spec::specs::Value::calculated))]
-    fn calculated(
+    #[tactic(auto, unfolding(wild_value_spec::specs::Value::arithmetic_value))]
+    fn arithmetic_value(
         &self,
         levels: usize,
         path: &Path<'_>,
@@ -163,7 +163,7 @@ impl Reader<'_> {
         point: Point,
     ) -> Result<Value, Fault>
         requires { levels < 1024 }
-        ensures value { Returns result (spec.calculated self.now levels (path_of path.now) operator a.now b.now point) }
+        ensures value { Returns result (spec.arithmetic_value self.now levels (path_of path.now) operator a.now b.now point) }
         ensures height { IfOk result (λ v. v.height ≤ levels + 1) }
     {
         let x = self.value(levels, path, a, point)?;
@@ -173,8 +173,8 @@ impl Reader<'_> {
 
     // The divisor first, which must not be 0.
     #[cycle(evaluation)]
-    #[tactic(auto, unfolding(wild_value_spec::specs::Value::divided))]
-    fn divided(
+    #[tactic(auto, unfolding(wild_value_spec::specs::Value::division_value))]
+    fn division_value(
         &self,
         levels: usize,
         path: &Path<'_>,
@@ -184,7 +184,7 @@ impl Reader<'_> {
         point: Point,
     ) -> Result<Value, Fault>
         requires { levels < 1024 }
-        ensures value { Returns result (spec.divided self.now levels (path_of path.now) operator a.now b.now point) }
+        ensures value { Returns result (spec.division_value self.now levels (path_of path.now) operator a.now b.now point) }
         ensures height { IfOk result (λ v. v.height ≤ levels + 1) }
     {
         let y = self.value(levels, path, b, point)?;
@@ -197,8 +197,8 @@ impl Reader<'_> {
 
     // The full values of both sides, the left one first.
     #[cycle(evaluation)]
-    #[tactic(auto, unfolding(wild_value_spec::specs::Value::compared))]
-    fn compared(
+    #[tactic(auto, unfolding(wild_value_spec::specs::Value::comparison_value))]
+    fn comparison_value(
         &self,
         levels: usize,
         path: &Path<'_>,
@@ -208,19 +208,19 @@ impl Reader<'_> {
         point: Point,
     ) -> Result<Value, Fault>
         requires { levels < 1024 }
-        ensures value { Returns result (spec.compared self.now levels (path_of path.now) comparison a.now b.now point) }
+        ensures value { Returns result (spec.comparison_value self.now levels (path_of path.now) comparison a.now b.now point) }
         ensures height { IfOk result (λ v. v.height ≤ levels + 1) }
     {
         let x = self.value(levels, path, a, point)?;
-        let first = self.based(point, x)?;
+        let first = self.full_number(point, x)?;
         let y = self.value(levels, path, b, point)?;
-        self.judged(comparison, point, first, x, y)
+        self.judgement(comparison, point, first, x, y)
     }
 
     // The right side only where the left one does not decide.
     #[cycle(evaluation)]
-    #[tactic(auto, unfolding(wild_value_spec::specs::Value::connected))]
-    fn connected(
+    #[tactic(auto, unfolding(wild_value_spec::specs::Value::connective_value))]
+    fn connective_value(
         &self,
         levels: usize,
         path: &Path<'_>,
@@ -230,7 +230,7 @@ impl Reader<'_> {
         point: Point,
     ) -> Result<Value, Fault>
         requires { levels < 1024 }
-        ensures value { Returns result (spec.connected self.now levels (path_of path.now) operator a.now b.now point) }
+        ensures value { Returns result (spec.connective_value self.now levels (path_of path.now) operator a.now b.now point) }
         ensures height { IfOk result (λ v. v.height ≤ levels + 1) }
     {
         let x = self.value(levels, path, a, point)?;
@@ -243,8 +243,8 @@ impl Reader<'_> {
 
     // One side.
     #[cycle(evaluation)]
-    #[tactic(auto, unfolding(wild_value_spec::specs::Value::turned))]
-    fn turned(
+    #[tactic(auto, unfolding(wild_value_spec::specs::Value::unary_value))]
+    fn unary_value(
         &self,
         levels: usize,
         path: &Path<'_>,
@@ -253,7 +253,7 @@ impl Reader<'_> {
         point: Point,
     ) -> Result<Value, Fault>
         requires { levels < 1024 }
-        ensures value { Returns result (spec.turned self.now levels (path_of path.now) operator a.now point) }
+        ensures value { Returns result (spec.unary_value self.now levels (path_of path.now) operator a.now point) }
         ensures height { IfOk result (λ v. v.height ≤ levels + 1) }
     {
         let x = self.value(levels, path, a, point)?;
@@ -262,8 +262,8 @@ impl Reader<'_> {
 
     // The condition, and then the chosen side only.
     #[cycle(evaluation)]
-    #[tactic(auto, unfolding(wild_value_spec::specs::Value::choice))]
-    fn choice(
+    #[tactic(auto, unfolding(wild_value_spec::specs::Value::ternary_value))]
+    fn ternary_value(
         &self,
         levels: usize,
         path: &Path<'_>,
@@ -273,18 +273,18 @@ impl Reader<'_> {
         point: Point,
     ) -> Result<Value, Fault>
         requires { levels < 1024 }
-        ensures value { Returns result (spec.choice self.now levels (path_of path.now) condition.now a.now b.now point) }
+        ensures value { Returns result (spec.ternary_value self.now levels (path_of path.now) condition.now a.now b.now point) }
         ensures height { IfOk result (λ v. v.height ≤ levels + 1) }
     {
         let x = self.value(levels, path, condition, point)?;
-        let y = self.value(levels, path, chosen(x.number, a, b), point)?;
+        let y = self.value(levels, path, chosen_side(x.number, a, b), point)?;
         Ok(over_both(y.number, x, y))
     }
 
     // The alignment first, which must not be 0.
     #[cycle(evaluation)]
-    #[tactic(auto, unfolding(wild_value_spec::specs::Value::aligned))]
-    fn aligned(
+    #[tactic(auto, unfolding(wild_value_spec::specs::Value::align_value))]
+    fn align_value(
         &self,
         levels: usize,
         path: &Path<'_>,
@@ -293,7 +293,7 @@ impl Reader<'_> {
         point: Point,
     ) -> Result<Value, Fault>
         requires { levels < 1024 }
-        ensures value { Returns result (spec.aligned self.now levels (path_of path.now) alignment.now held.now point) }
+        ensures value { Returns result (spec.align_value self.now levels (path_of path.now) alignment.now held.now point) }
         ensures height { IfOk result (λ v. v.height ≤ levels + 1) }
     {
         let x = self.value(levels, path, alignment, point)?;
@@ -303,7 +303,7 @@ impl Reader<'_> {
             });
         }
         let y = self.subject(levels, path, held, point)?;
-        self.raised(x, y)
+        self.multiple_value(x, y)
     }
 
     // What is aligned: an expression, or else the location counter without its mark.
@@ -339,7 +339,7 @@ impl Reader<'_> {
         ensures value { Returns result (spec.symbol self.now levels (path_of path.now) name.now point) }
         ensures height { IfOk result (λ v. v.height ≤ levels + 1) }
     {
-        match self.names.definition(name) {
+        match self.scope.definition(name) {
             None => self.unknown_symbol(name),
             Some(definition) => {
                 if path.has(name) {
@@ -393,14 +393,14 @@ impl Reader<'_> {
     {
         let longer = Path::Through(&*name, &*path);
         let found = self.value(levels, &longer, expression, own)?;
-        let address = self.based(own, found)?;
-        self.used(name, own.section, point, address, found.height)
+        let address = self.full_number(own, found)?;
+        self.symbol_value(name, own.section, point, address, found.height)
     }
 
     // A condition, which must not be 0.
     #[cycle(evaluation)]
-    #[tactic(auto, unfolding(wild_value_spec::specs::Value::asserted))]
-    fn asserted(
+    #[tactic(auto, unfolding(wild_value_spec::specs::Value::assert_value))]
+    fn assert_value(
         &self,
         levels: usize,
         path: &Path<'_>,
@@ -408,7 +408,7 @@ impl Reader<'_> {
         point: Point,
     ) -> Result<Value, Fault>
         requires { levels < 1024 }
-        ensures value { Returns result (spec.asserted self.now levels (path_of path.now) command.now point) }
+        ensures value { Returns result (spec.assert_value self.now levels (path_of path.now) command.now point) }
         ensures height { IfOk result (λ v. v.height ≤ levels + 1) }
     {
         let condition = self.value(levels, path, command.expression.get(), point)?;

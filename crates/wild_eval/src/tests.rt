@@ -1,4 +1,4 @@
-use crate::{ConstFault, Names, Path, Point, Reader, Table, evaluate_const};
+use crate::{Addresses, ConstFault, Evaluator, Path, Point, Scope, evaluate_const};
 use sqlite_items::Boxed;
 use std::alloc::Global;
 use std::test::Fail;
@@ -146,21 +146,21 @@ fn constants(rt: HostRuntime) -> Result<(), Fail> {
 }
 
 // Section 0, `.a`, starts at 0x1000. The counter is 0x1003 at place 1 in it, and 0x2001 at place 2 outside.
-fn learn(alloc: Global) -> Result<Table, NoMemory> {
-    let mut table = Table::new(alloc);
-    table.learn_start(0, 0x1000)?;
-    table.learn_dot(1, 0x1003)?;
-    table.learn_dot(2, 0x2001)?;
-    Ok(table)
+fn learn(alloc: Global) -> Result<Addresses, NoMemory> {
+    let mut addresses = Addresses::new(alloc);
+    addresses.learn_start(0, 0x1000)?;
+    addresses.learn_dot(1, 0x1003)?;
+    addresses.learn_dot(2, 0x2001)?;
+    Ok(addresses)
 }
 
 // What a statement reads at a place, or the number of its fault.
 fn read(alloc: Global, index: usize, point: Point) -> Result<Result<u64, u32>, NoMemory> {
     let tree = sample(alloc, index)?;
-    let table = learn(alloc)?;
+    let addresses = learn(alloc)?;
     let name = Name::new(alloc, b".a")?;
     let numbers = Numbering::new(alloc);
-    let names = Names {
+    let scope = Scope {
         sections: &[&name],
         section_numbers: &numbers,
         alignments: &[Alignment::default()],
@@ -168,13 +168,13 @@ fn read(alloc: Global, index: usize, point: Point) -> Result<Result<u64, u32>, N
         entries: &[],
         script: b"",
     };
-    let reader = Reader {
+    let evaluator = Evaluator {
         alloc,
-        names: &names,
-        table: &table,
+        scope: &scope,
+        addresses: &addresses,
         statement: 7,
     };
-    match reader.full(&Path::Start, tree.get(), point) {
+    match evaluator.full(&Path::Start, tree.get(), point) {
         Ok(number) => Ok(Ok(number)),
         Err(fault) => Ok(Err(fault.number())),
     }

@@ -1,6 +1,6 @@
 -- Chains are lists grouped to the left.
 use Rattle.std.proofs.Common.{◌≡◌, ℕ, List, [], ◌∷◌, refl, subst, sym, true, false}
-use Rattle.wild_reading.specs.Place.{Bytes}
+use Rattle.wild_reading.specs.Position.{Bytes}
 use Rattle.wild_reading.specs.Family.{Fold, done, next, room}
 use Rattle.wild_expression_words.specs.declared.operators.Level.{Level}
 use Rattle.wild_expression_words.specs.declared.operators.Level.TheVariants as l

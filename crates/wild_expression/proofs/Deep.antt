@@ -1,6 +1,6 @@
 -- How deep what a reader reads is, and within which limits it stands.
 use Rattle.std.proofs.Common.{ℕ, ◌+◌, ◌≤◌, ◌<◌, max, Bool, sym, subst, arith}
-use Rattle.wild_reading.specs.Place.{Bytes}
+use Rattle.wild_reading.specs.Position.{Bytes}
 use Rattle.wild_reading.specs.Reader.{Reader, Then, Give, Choice, yes, no}
 use Rattle.wild_reading.specs.Family.{room, Fold, done, next, Folds}
 use Rattle.wild_expression_words.specs.declared.operators.Level.{Level}

@@ -1,6 +1,6 @@
 -- Each part of an expression is as deep as its limit allows, and stands within each limit that its depth allows.
 use Rattle.std.proofs.Common.{ℕ, zero, suc, ◌≤◌, arith}
-use Rattle.wild_reading.specs.Place.{Bytes}
+use Rattle.wild_reading.specs.Position.{Bytes}
 use Rattle.wild_reading.specs.Reader.{Reader}
 use Rattle.wild_reading.specs.Family.{levels, InsideAt}
 use Rattle.wild_reading.proofs.Readers.{IsInner}

@@ -1,7 +1,7 @@
 -- What holds no expression is read alike at each limit.
 use Rattle.std.proofs.Common.{ℕ, Bool, List}
 use Rattle.std.specs.Prelude.{Option, Some, None}
-use Rattle.wild_reading.specs.Place.{Bytes}
+use Rattle.wild_reading.specs.Position.{Bytes}
 use Rattle.wild_reading.specs.Reader.{Reader, Then, Give, here, Ahead, Nothing, Passes, Takes, Choice, yes, no, Until, none, more}
 use Rattle.wild_reading.specs.Lex.{white, byte, gap, quoted, quoted_token, token, word, name, symbol}
 use Rattle.wild_expression_words.specs.declared.operators.Level.{Level}

@@ -1,6 +1,6 @@
 pub mod Weights
-pub mod Levels
-pub mod Places
+pub mod Local
+pub mod Positions
 pub mod Shorter
 pub mod ChainLists
 pub mod Free

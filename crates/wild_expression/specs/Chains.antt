@@ -1,6 +1,6 @@
 -- A chain of operators of one level as a list of operators and operands, grouped to the left.
 use Rattle.std.specs.Prelude.{◌≡◌, ◌↔◌, ℕ, ◌<◌, true, false, List, [], ◌∷◌}
-use Rattle.wild_reading.specs.Place.{Bytes}
+use Rattle.wild_reading.specs.Position.{Bytes}
 use Rattle.wild_expression_words.specs.declared.operators.Level.{Level}
 use Rattle.wild_expression_words.specs.declared.operators.Operator.{Operator}
 use Rattle.wild_expression.specs.declared.measured.Measured.{Measured}

@@ -1,6 +1,6 @@
 -- What a limit of depth allows.
 use Rattle.std.specs.Prelude.{◌↔◌, ℕ, ◌≤◌}
-use Rattle.wild_reading.specs.Place.{Bytes}
+use Rattle.wild_reading.specs.Position.{Bytes}
 use Rattle.wild_expression_words.specs.declared.operators.Level.{Level}
 use Rattle.wild_expression.specs.declared.measured.Measured.{Measured}
 use Rattle.wild_expression.specs.Grammar.{value}

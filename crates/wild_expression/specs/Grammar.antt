@@ -1,6 +1,6 @@
 -- The grammar of expressions, and how deep each is.
 use Rattle.std.specs.Prelude.{ℕ, ◌+◌, ◌≤◌, max, List, Some, None}
-use Rattle.wild_reading.specs.Place.{Place, IsPaid}
+use Rattle.wild_reading.specs.Position.{Position, IsPaid}
 use Rattle.wild_reading.specs.Bytes.{begins}
 use Rattle.wild_reading.specs.Reader.{Reader, ◌>>=◌, ◌>>◌, Give, here, Takes, Choice}
 use Rattle.wild_reading.specs.Lex.{byte, gap, symbol, name}
@@ -76,7 +76,7 @@ abbrev pub lone : Expression → Measured
 lone x = record { expression = x; depth = 0 }
 
 -- the depth is paid by marks, if there is any
-pub record IsCovered (depth : ℕ) (s : Place) : Type 0 where
+pub record IsCovered (depth : ℕ) (s : Position) : Type 0 where
   pub paid : 1 ≤ depth → IsPaid depth s
 
 -- ---- brackets and calls, from what is read one deeper

@@ -1,6 +1,6 @@
 -- What stands at a position as an expression, of depth at most 256, and what says that there is none.
 use Rattle.std.specs.Prelude.{◌≡◌, ℕ, ◌≤◌, ◌<◌, length}
-use Rattle.wild_reading.specs.Place.{Bytes}
+use Rattle.wild_reading.specs.Position.{Bytes}
 use Rattle.wild_names.specs.declared.fault.Fault.{Fault}
 use Rattle.wild_names.specs.declared.fault.Fault.TheVariants.{Syntax, UnclosedComment, TooDeep, NoMemory}
 use Rattle.wild_reading.specs.Only.{IsOpenComment, IsTooDeep}

@@ -2,16 +2,16 @@
 #![tactic(auto)]
 
 mod laws;
+mod levels;
 mod measured;
 mod parts;
 mod readings;
-mod values;
 
 pub use laws::{chains_are_lists, depths_are_budgets};
+pub use levels::{inner_value, value};
 pub use measured::Measured;
 pub use parts::{assert_body, expression};
 pub use readings::parse_expression;
-pub use values::{inner_value, value};
 pub use wild_expression_tree::{AssertCommand, Expression, equality_is_sameness};
 pub use wild_expression_words::{Level, Operator, node};
 

@@ -5,9 +5,9 @@ ghost use Rattle.wild_expression.specs.Grammar as spec;
 
 use sqlite_items::Boxed;
 use std::alloc::{AllocError, Global};
-use wild_names::{Name, SegmentName};
 use wild_expression_tree::{AssertCommand, Expression};
 use wild_expression_words::{Extreme, Operator, Question, Sign, node, signed_node};
+use wild_names::{Name, SegmentName};
 
 /// An expression, and its depth: how many brackets, signs, operators and calls stand in one another in it.
 #[derive(Debug, Drop)]

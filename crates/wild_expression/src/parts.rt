@@ -1,11 +1,11 @@
 //! Parts of statements that are made of expressions.
 
 ghost use Rattle.std.specs.Prelude.{◌<◌, OnOk};
-ghost use Rattle.wild_reading.specs.Place.{ahead};
+ghost use Rattle.wild_reading.specs.Position.{ahead};
 ghost use Rattle.wild_reading.specs.Only.{Answers};
 ghost use Rattle.wild_expression.specs.Parts as spec;
 
-use crate::values::value;
+use crate::levels::value;
 use sqlite_items::Boxed;
 use std::alloc::Global;
 use wild_expression_tree::{AssertCommand, Expression};

@@ -4,11 +4,11 @@ ghost use Rattle.std.specs.Prelude.{◌≡◌, ◌≤◌, ◌⊎◌, length, IfO
 ghost use Rattle.wild_names.specs.declared.fault.Fault.TheVariants.{NoMemory};
 ghost use Rattle.wild_expression.specs.Readings.{plain_fault, IsExpression, IsRefusal};
 
-use crate::values::value;
+use crate::levels::value;
 use std::alloc::Global;
-use wild_names::Fault;
 use wild_expression_tree::Expression;
 use wild_expression_words::Level;
+use wild_names::Fault;
 use wild_reading::{Cursor, Stop};
 
 /// How deep an expression may be.

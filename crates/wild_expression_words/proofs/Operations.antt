@@ -2,7 +2,7 @@
 use Rattle.std.proofs.Common.{◌≡◌, ◌≤◌, ◌+◌, ℕ, Bool, true, false, length, arith, refl, sym, subst, ◌∙◌, Option, Some, None}
 use Rattle.std.specs.Prelude.{slice_get, Ok, Err}
 use Rattle.std.proofs.lemmas.Grind.{common_steps}
-use Rattle.wild_reading.specs.Place.{Bytes, Text, Place, IsPaid, IsMarked, is_mark, mark_count}
+use Rattle.wild_reading.specs.Position.{Bytes, Text, Position, IsPaid, IsMarked, is_mark, mark_count}
 use Rattle.wild_reading.specs.Bytes.{begins, is_byte}
 use Rattle.wild_reading.specs.Reader.{Reader}
 use Rattle.wild_reading.specs.Lex.{byte, after_byte}
@@ -25,7 +25,7 @@ unfolding after_byte
 after_found c b i j true e h = cc
 after_found c b i j false e h = absurd cc
 
-pub byte_end : (c : ℕ) {s r : Place} → IsOnly (byte c) s tt r → r.at ≡ s.at + 1
+pub byte_end : (c : ℕ) {s r : Position} → IsOnly (byte c) s tt r → r.at ≡ s.at + 1
 unfolding byte
 byte_end c {s} {r} p = after_found c s.text.bytes s.at r.at _ refl p.reads.found
 
@@ -34,12 +34,12 @@ unfolding after_byte
 began c b i j true e h = e
 began c b i j false e h = absurd cc
 
-byte_counts : (c : ℕ) {s r : Place} → is_mark c ≡ true → IsOnly (byte c) s tt r → mark_count s.text.bytes s.at + 1 ≤ mark_count s.text.bytes (s.at + 1)
+byte_counts : (c : ℕ) {s r : Position} → is_mark c ≡ true → IsOnly (byte c) s tt r → mark_count s.text.bytes s.at + 1 ≤ mark_count s.text.bytes (s.at + 1)
 unfolding byte
 byte_counts c {s} {r} m p = marked c s.text.bytes s.at (began c s.text.bytes s.at r.at _ refl p.reads.found) m
 
 -- a mark pays for one level more
-pub byte_pays : (c : ℕ) {s r : Place} {more : ℕ} → is_mark c ≡ true → IsOnly (byte c) s tt r → IsPaid more s → IsPaid (more + 1) r
+pub byte_pays : (c : ℕ) {s r : Position} {more : ℕ} → is_mark c ≡ true → IsOnly (byte c) s tt r → IsPaid more s → IsPaid (more + 1) r
 byte_pays c {s} {r} {more} m p q =
     let at_start : IsPaid (more + 1) (record { text = s.text; at = r.at; left = s.left }) = record { paid = omega (arith, q.paid, byte_counts c m p, mark_count-rises s.text.bytes (s.at + 1) r.at (omega (arith, byte_end c p))) } in
     let text_same : IsPaid (more + 1) (record { text = r.text; at = r.at; left = s.left }) = subst (λ (t : Text). IsPaid (more + 1) (record { text = t; at = r.at; left = s.left })) (sym p.text) at_start in
@@ -50,7 +50,7 @@ unfolding after_byte
 stands c b i h = rw h refl
 
 -- so its reader stops for want of memory alone, and no other reader is harmed
-pub byte_stands : {A : Type 0} {R : Reader A} (c : ℕ) {s : Place} {stop : Stop} → begins c s.text.bytes s.at ≡ true → Refuses (byte c) s stop → Refuses R s stop
+pub byte_stands : {A : Type 0} {R : Reader A} (c : ℕ) {s : Position} {stop : Stop} → begins c s.text.bytes s.at ≡ true → Refuses (byte c) s stop → Refuses R s stop
 unfolding byte
 byte_stands c {s = s} h p = record {
   none = λ e y j g. p.none e tt (s.at + 1) (record { found = stands c s.text.bytes s.at h });
@@ -58,7 +58,7 @@ byte_stands c {s = s} h p = record {
   cause = p.cause;
 }
 
-pub marked_on : {m r : Place} → IsMarked m → r.text ≡ m.text → r.left ≡ m.left → m.at ≤ r.at → IsMarked r
+pub marked_on : {m r : Position} → IsMarked m → r.text ≡ m.text → r.left ≡ m.left → m.at ≤ r.at → IsMarked r
 marked_on {m} {r} p e g h =
     let here : IsMarked (record { text = m.text; at = r.at; left = m.left }) = record { paid = omega (arith, p.paid, mark_count-rises m.text.bytes m.at r.at h) } in
     let there : IsMarked (record { text = r.text; at = r.at; left = m.left }) = subst (λ (t : Text). IsMarked (record { text = t; at = r.at; left = m.left })) (sym e) here in
@@ -76,8 +76,8 @@ sign_begins b i x h = sign_first (slice_get b i) (slice_get b (i + 1)) x h
 pub sign_marks : (x : Sign) → is_mark (sign_byte x) ≡ true
 sign_marks x = grind arith
 
-module _ {s : Place} {b : Bytes} {i : ℕ} (e : b ≡ s.text.bytes) (g : i ≡ s.at) where
-  pub sign_reads : {r : Place} {x : Sign} {v : ℕ} → Some x ≡ sign_found b i → v ≡ sign_byte x → IsOnly (byte v) s tt r → Answers sign s r (Ok x)
+module _ {s : Position} {b : Bytes} {i : ℕ} (e : b ≡ s.text.bytes) (g : i ≡ s.at) where
+  pub sign_reads : {r : Position} {x : Sign} {v : ℕ} → Some x ≡ sign_found b i → v ≡ sign_byte x → IsOnly (byte v) s tt r → Answers sign s r (Ok x)
   unfolding sign sign_at
   sign_reads {x = x} {v = v} h k p = let found : sign_found s.text.bytes s.at ≡ Some x = cc in answers_ok (takes_only (rw (found, byte_end v p) refl) p.text p.left p.forward p.shrinks)
 
@@ -117,8 +117,8 @@ operator_marks x = grind arith
 width-some : (x : Operator) → 1 ≤ width x
 width-some x = grind arith
 
-module _ (level : Level) {s : Place} {b : Bytes} {i : ℕ} (e : b ≡ s.text.bytes) (g : i ≡ s.at) where
-  pub operator_reads : {m r : Place} {x : Operator} {v w : ℕ} → Some x ≡ operator_found level b i → v ≡ first_byte x → w ≡ width x → IsOnly (byte v) s tt m → r.text ≡ m.text → r.at ≡ i + w → r.left ≡ m.left → Answers (operator level) s r (Ok x)
+module _ (level : Level) {s : Position} {b : Bytes} {i : ℕ} (e : b ≡ s.text.bytes) (g : i ≡ s.at) where
+  pub operator_reads : {m r : Position} {x : Operator} {v w : ℕ} → Some x ≡ operator_found level b i → v ≡ first_byte x → w ≡ width x → IsOnly (byte v) s tt m → r.text ≡ m.text → r.at ≡ i + w → r.left ≡ m.left → Answers (operator level) s r (Ok x)
   unfolding operator operator_at
   operator_reads {m} {r} {x} {v} {w} h k a p t u z =
       let found : operator_found level s.text.bytes s.at ≡ Some x = cc in
@@ -144,7 +144,7 @@ operator_counts level b i x j h =
     let q = reads_some (operator_found level b i) x i j h in
     omega (arith, marked (first_byte x) b i (operator_begins level b i x q.0) (operator_marks x), mark_count-rises b (i + 1) j (omega (arith, width-some x, q.1)))
 
-pub operator_pays : (level : Level) {s r : Place} {x : Operator} {more : ℕ} → IsOnly (operator level) s x r → IsPaid more s → IsPaid (more + 1) r
+pub operator_pays : (level : Level) {s r : Position} {x : Operator} {more : ℕ} → IsOnly (operator level) s x r → IsPaid more s → IsPaid (more + 1) r
 unfolding operator
 operator_pays level {s} {r} {x} {more} p q =
     let at_start : IsPaid (more + 1) (record { text = s.text; at = r.at; left = s.left }) = record { paid = omega (arith, q.paid, operator_counts level s.text.bytes s.at x r.at p.reads.found) } in

@@ -1,7 +1,7 @@
 -- Identifiers.
 use Rattle.std.specs.Prelude.{ℕ, Bool, false, ◌||◌, ◌==◌, if◌then◌else◌, List, Option, Some, None, slice_get}
 use Rattle.std.specs.Char.{is_ascii_alphanumeric, is_ascii_digit}
-use Rattle.wild_reading.specs.Place.{Bytes}
+use Rattle.wild_reading.specs.Position.{Bytes}
 use Rattle.wild_reading.specs.Bytes.{run_end}
 use Rattle.wild_reading.specs.Lex.{between}
 

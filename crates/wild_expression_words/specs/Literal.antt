@@ -2,7 +2,7 @@
 use Rattle.std.specs.Prelude.{ℕ, ◌+◌, ◌*◌, ◌^◌, ◌%◌, Bool, not, ◌||◌, ◌&&◌, ◌==◌, nat_lt, if◌then◌else◌, Option, Some, None, slice_get}
 use Rattle.std.specs.Char as chars
 use Rattle.std.specs.Str.Parse.{digits_value}
-use Rattle.wild_reading.specs.Place.{Bytes}
+use Rattle.wild_reading.specs.Position.{Bytes}
 use Rattle.wild_reading.specs.Bytes.{begins, run_end}
 use Rattle.wild_reading.specs.Lex.{between}
 use Rattle.wild_expression_words.specs.Identifier.{goes_on}

@@ -1,6 +1,6 @@
 -- The levels of expressions, their operators and signs.
 use Rattle.std.specs.Prelude.{ℕ, ◌+◌, Bool, true, false, not, ◌&&◌, ◌==◌, if◌then◌else◌, Option, Some, None, slice_get}
-use Rattle.wild_reading.specs.Place.{Bytes}
+use Rattle.wild_reading.specs.Position.{Bytes}
 use Rattle.wild_reading.specs.Bytes.{is_byte}
 use Rattle.wild_reading.specs.Reader.{Reader, Takes}
 use Rattle.wild_expression_tree.specs.declared.tree.Expression.{Expression}

@@ -1,6 +1,6 @@
 -- Quoted names of segments.
 use Rattle.std.specs.Prelude.{ℕ, ◌+◌, not, ◌&&◌, ◌==◌, if◌then◌else◌, List, Option, Some, None}
-use Rattle.wild_reading.specs.Place.{Bytes}
+use Rattle.wild_reading.specs.Position.{Bytes}
 use Rattle.wild_reading.specs.Bytes.{begins, quotes_end}
 use Rattle.wild_reading.specs.Lex.{between}
 

@@ -4,7 +4,7 @@ ghost use Rattle.std.specs.Prelude.{◌≡◌, ◌≤◌, ◌<◌, ◌+◌, ◌^
 ghost use Rattle.std.specs.Bool.{OnTrue};
 ghost use Rattle.std.specs.Char as chars;
 ghost use Rattle.std.specs.Str.Parse.{digits_value};
-ghost use Rattle.wild_reading.specs.Place.{ahead};
+ghost use Rattle.wild_reading.specs.Position.{ahead};
 ghost use Rattle.wild_reading.specs.Reader.{Takes};
 ghost use Rattle.wild_reading.specs.Only.{Answers};
 ghost use Rattle.wild_expression_words.specs.Literal as spec;

@@ -3,7 +3,7 @@
 ghost use Rattle.std.specs.Prelude.{◌≡◌, ◌≤◌, ◌<◌, ◌+◌, length, IfSome, OnSome, OnOk, MatchOption};
 ghost use Rattle.wild_reading.specs.Bytes.{is_byte};
 ghost use Rattle.wild_reading.specs.Only.{Answers};
-ghost use Rattle.wild_reading.specs.Place.{ahead, IsMarked};
+ghost use Rattle.wild_reading.specs.Position.{ahead, IsMarked};
 ghost use Rattle.wild_expression_words.specs.Operators as spec;
 
 use sqlite_items::Boxed;

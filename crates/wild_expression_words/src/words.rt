@@ -2,7 +2,7 @@
 
 ghost use Rattle.std.specs.Prelude.{◌≡◌, ◌<◌, ◌≤◌, ◌+◌, IfOk, OnOk};
 ghost use Rattle.std.specs.Str.{bytes_eq};
-ghost use Rattle.wild_reading.specs.Place.{ahead};
+ghost use Rattle.wild_reading.specs.Position.{ahead};
 ghost use Rattle.wild_reading.specs.Only.{Answers};
 ghost use Rattle.wild_expression_words.specs.Dialect.{first_grammar};
 ghost use Rattle.wild_expression_words.specs.Words as spec;
@@ -13,8 +13,8 @@ use crate::literal::literal;
 use crate::piece::Piece;
 use sqlite_items::Boxed;
 use std::alloc::Global;
-use wild_names::{Name, NoMemory};
 use wild_expression_tree::Expression;
+use wild_names::{Name, NoMemory};
 use wild_reading::{Cursor, Stop};
 
 /// The calls over one name.

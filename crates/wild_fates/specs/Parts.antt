@@ -9,8 +9,8 @@ use Rattle.wild_plan_spec.specs.Fates.{orphans, names_asked, all_fates, section_
 use Rattle.wild_plan_spec.specs.Names.{Name}
 use Rattle.wild_plan_spec.specs.Places.{Place, script_places}
 use Rattle.wild_plan_spec.specs.Orphans.{places_of}
-use Rattle.wild_fates.specs.declared.placing.Parts.{Parts}
-use Rattle.wild_fates.specs.declared.placing.Placed.{Placed}
+use Rattle.wild_fates.specs.declared.script_fates.Parts.{Parts}
+use Rattle.wild_fates.specs.declared.script_fates.ScriptFates.{ScriptFates}
 use Rattle.wild_fates.specs.Orphaned.{orphans_from}
 use Rattle.wild_fates.specs.Pointed.{pointed}
 use Rattle.wild_fates.specs.Shown.{shown}
@@ -21,13 +21,13 @@ pub record IsParts (t : LinkerScript) (parts : Parts) : Type 0 where
   pub places : shown parts.places ≡ script_places t
 
 -- where rows go by these rules, with orphans behind these places and these sections
-pub record IsPlacedBy (places : List Place) (rules : List Rule) (own : List Name) (rows : List InputRow) (placed : Placed) : Type 0 where
-  pub names : placed.names ≡ own ++ orphans own (names_asked rules rows)
-  pub fates : placed.fates ≡ all_fates rules (own ++ orphans own (names_asked rules rows)) rows
-  pub all_places : shown placed.places ≡ places ++ orphans_from (length own) (length (own ++ orphans own (names_asked rules rows)) - length own)
+pub record IsDecidedBy (places : List Place) (rules : List Rule) (own : List Name) (rows : List InputRow) (decided : ScriptFates) : Type 0 where
+  pub names : decided.names ≡ own ++ orphans own (names_asked rules rows)
+  pub fates : decided.fates ≡ all_fates rules (own ++ orphans own (names_asked rules rows)) rows
+  pub all_places : shown decided.places ≡ places ++ orphans_from (length own) (length (own ++ orphans own (names_asked rules rows)) - length own)
 
 -- where the rows of a table go
-pub record IsPlaced (t : LinkerScript) (inputs : InputTable) (placed : Placed) : Type 0 where
-  pub names : placed.names ≡ section_names t inputs
-  pub fates : placed.fates ≡ fates_of t inputs
-  pub places : shown placed.places ≡ places_of t inputs
+pub record IsDecided (t : LinkerScript) (inputs : InputTable) (decided : ScriptFates) : Type 0 where
+  pub names : decided.names ≡ section_names t inputs
+  pub fates : decided.fates ≡ fates_of t inputs
+  pub places : shown decided.places ≡ places_of t inputs

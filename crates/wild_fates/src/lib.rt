@@ -4,11 +4,11 @@
 mod built;
 mod fates;
 mod places;
-mod placing;
 mod rules;
+mod script_fates;
 mod section_names;
 mod statements;
 
 pub use places::{Place, Task};
-pub use placing::{Placed, place_rows};
+pub use script_fates::{ScriptFates, decide_fates};
 pub use section_names::SectionNames;

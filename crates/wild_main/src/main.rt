@@ -7,8 +7,8 @@ ghost use Rattle.std.specs.Vec.Iter.{into_iter_items};
 use std::alloc::{AllocError, Global};
 use std::process::ExitCode;
 use std::{env, io};
-use wild_names::Name;
 use wild_cli::{DirFiles, StreamSink, run};
+use wild_names::Name;
 
 /// The status where memory runs out.
 const NO_MEMORY: u8 = 5;

@@ -1,12 +1,12 @@
 -- Lists of entries as they are kept.
 use Rattle.std.proofs.Common.{◌≡◌, ◌++◌, List, [], ◌∷◌, refl, ap}
-use Rattle.wild_eval.specs.declared.names.Entry.{Entry}
-use Rattle.wild_value_spec.specs.Setting.{Definition}
+use Rattle.wild_eval.specs.declared.scope.SymbolEntry.{SymbolEntry}
+use Rattle.wild_value_spec.specs.Scope.{Definition}
 use Rattle.wild_plan_spec.specs.Definitions as spec
 use Rattle.wild_plan_spec.specs.Names.{Name}
 use Rattle.wild_plan.specs.Entries.{shown_entry, shown_entries}
 
-pub entries_append : (xs ys : List Entry) → shown_entries (xs ++ ys) ≡ shown_entries xs ++ shown_entries ys
+pub entries_append : (xs ys : List SymbolEntry) → shown_entries (xs ++ ys) ≡ shown_entries xs ++ shown_entries ys
 entries_append [] ys = refl
 entries_append (x ∷ xs) ys = ap (λ zs. shown_entry x ∷ zs) (entries_append xs ys)
 

@@ -6,7 +6,7 @@ use Rattle.wild_value_spec.specs.Known.{Known}
 use Rattle.wild_plan_spec.specs.Chunks.{section_rows}
 use Rattle.wild_plan_spec.specs.Layout.{placed_sections}
 use Rattle.wild_plan_spec.specs.Names.{Name}
-use Rattle.wild_plan_spec.specs.Settings.{alignments_of}
+use Rattle.wild_plan_spec.specs.Scopes.{alignments_of}
 use Rattle.wild_plan.specs.declared.traits.Traits.{Traits}
 use Rattle.wild_plan.specs.Traits.{traits_of}
 use Rattle.wild_plan.specs.Listed.{sections_by, alignments_by}

@@ -6,16 +6,16 @@ use Rattle.wild_names.specs.declared.fault.Fault.{Fault}
 use Rattle.wild_expression_tree.specs.declared.tree.Expression.{Expression}
 use Rattle.wild_value_spec.specs.Answer.{◌>>=◌}
 use Rattle.wild_value_spec.specs.Known.{Known}
-use Rattle.wild_value_spec.specs.Setting.{Name, Setting}
-use Rattle.wild_plan_spec.specs.declared.placed.PlacedSymbol.{PlacedSymbol}
+use Rattle.wild_value_spec.specs.Scope.{Name, Scope}
+use Rattle.wild_plan_spec.specs.declared.listed_symbol.PlacedSymbol.{PlacedSymbol}
 use Rattle.wild_plan_spec.specs.Places.{Place, Task, task_of}
-use Rattle.wild_plan_spec.specs.End.{assigned, placed, task_symbol, symbols}
+use Rattle.wild_plan_spec.specs.End.{assignment_symbol, listed_symbol, task_symbol, symbols}
 use Rattle.wild_plan.specs.Listed.{behind}
 
 -- a name that is not empty is listed
-pub assigned_named : (setting : Setting) (known : Known) (i : ℕ) (name : Name) (e : Expression) → (name ≡ [] → ⊥) → assigned setting known i name e ≡ placed setting known i name e false
-assigned_named setting known i [] e h = absurd (h refl)
-assigned_named setting known i (b ∷ bs) e h = refl
+pub assigned_named : (scope : Scope) (known : Known) (i : ℕ) (name : Name) (e : Expression) → (name ≡ [] → ⊥) → assignment_symbol scope known i name e ≡ listed_symbol scope known i name e false
+assigned_named scope known i [] e h = absurd (h refl)
+assigned_named scope known i (b ∷ bs) e h = refl
 
 pub ruleset assigned_by_name = (assigned_named)
 
@@ -28,9 +28,9 @@ behind_nothing (Ok rest) = refl
 behind_nothing (Err f) = refl
 
 -- one place more
-pub symbols_more : (setting : Setting) (known : Known) (i : ℕ) (found : List PlacedSymbol) (p : Place) (ps : List Place) (task : Option Task) (s : Option PlacedSymbol) (next : List PlacedSymbol)
-    → task ≡ task_of p → task_symbol setting known i task ≡ Ok s → next ≡ found ++ option_to_list s → behind next (symbols setting known (i + 1) ps) ≡ behind found (symbols setting known i (p ∷ ps))
-symbols_more setting known i found p ps task s next a b c =
-    let there : task_symbol setting known i (task_of p) ≡ Ok s = ap (task_symbol setting known i) (sym a) ∙ b in
-    let here : symbols setting known i (p ∷ ps) ≡ symbols setting known (i + 1) ps >>= (λ rest. Ok (option_to_list s ++ rest)) = rw there refl in
-    ap (λ (xs : List PlacedSymbol). behind xs (symbols setting known (i + 1) ps)) c ∙ behind_more found (option_to_list s) (symbols setting known (i + 1) ps) ∙ ap (behind found) (sym here)
+pub symbols_more : (scope : Scope) (known : Known) (i : ℕ) (found : List PlacedSymbol) (p : Place) (ps : List Place) (task : Option Task) (s : Option PlacedSymbol) (next : List PlacedSymbol)
+    → task ≡ task_of p → task_symbol scope known i task ≡ Ok s → next ≡ found ++ option_to_list s → behind next (symbols scope known (i + 1) ps) ≡ behind found (symbols scope known i (p ∷ ps))
+symbols_more scope known i found p ps task s next a b c =
+    let there : task_symbol scope known i (task_of p) ≡ Ok s = ap (task_symbol scope known i) (sym a) ∙ b in
+    let here : symbols scope known i (p ∷ ps) ≡ symbols scope known (i + 1) ps >>= (λ rest. Ok (option_to_list s ++ rest)) = rw there refl in
+    ap (λ (xs : List PlacedSymbol). behind xs (symbols scope known (i + 1) ps)) c ∙ behind_more found (option_to_list s) (symbols scope known (i + 1) ps) ∙ ap (behind found) (sym here)

@@ -2,12 +2,12 @@
 use Rattle.std.specs.Prelude.{◌≡◌, Result, Ok, Err}
 use Rattle.wild_names.specs.declared.fault.Fault.{Fault}
 use Rattle.wild_value_spec.specs.Answer.{Fails}
-use Rattle.wild_plan_spec.specs.Line.{State}
+use Rattle.wild_plan_spec.specs.Steps.{State}
 use Rattle.wild_plan.specs.declared.walk.Walk.{Walk}
-use Rattle.wild_eval.specs.Table.{known_of}
+use Rattle.wild_eval.specs.Addresses.{known_of}
 
 abbrev pub state_of : Walk → State
-state_of w = record { counter = w.counter; cursor = w.cursor; known = known_of w.table; locations = w.locations }
+state_of w = record { counter = w.counter; cursor = w.cursor; known = known_of w.addresses; locations = w.locations }
 
 -- the walk has come where the answer says, or there is its refusal, unless memory ran out
 abbrev pub Moves : {X : Type 0} → Result X Fault → Walk → Result State Fault → Type 0

@@ -12,7 +12,7 @@ ghost use Rattle.wild_fates.specs.Passes.{Passes, repeated};
 use bitflags::Flags;
 use std::alloc::Global;
 use wild_base::{Alignment, Fault, InputFlags, Name, NoMemory};
-use wild_eval::Entry;
+use wild_eval::SymbolEntry;
 use wild_numbering::Numbering;
 use wild_plan_spec::{InputRow, Kept, SymbolRow};
 
@@ -63,7 +63,7 @@ fn push_name(alloc: Global, names: &mut Numbering, name: &Name) -> Result<bool, 
     Ok(first)
 }
 
-fn push_symbol(alloc: Global, names: &mut Numbering, entry: &Entry<'_>) -> Result<(), Fault>
+fn push_symbol(alloc: Global, names: &mut Numbering, entry: &SymbolEntry<'_>) -> Result<(), Fault>
     ensures pushed { OnOk result (names.new ≡ names.old ++ entry.now.name.now ∷ []) }
     ensures passes { Passes (repeated DuplicateSymbol names.old entry.now.name.now) result }
 {
@@ -78,7 +78,7 @@ fn push_symbol(alloc: Global, names: &mut Numbering, entry: &Entry<'_>) -> Resul
 
 /// The names of the entries, of which no two are the same. The fault is that of the first with the name of an earlier
 /// one.
-pub fn number_entries(alloc: Global, entries: &[Entry<'_>]) -> Result<Numbering, Fault>
+pub fn number_entries(alloc: Global, entries: &[SymbolEntry<'_>]) -> Result<Numbering, Fault>
     ensures names { IfOk result (λ names. names ≡ entry_names (shown_entries entries.now)) }
     ensures passes { Passes (failing (name_checks DuplicateSymbol [] (entry_names (shown_entries entries.now)))) result }
 {

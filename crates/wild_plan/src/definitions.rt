@@ -1,7 +1,7 @@
 //! The definitions of symbols: what is defined, in the order in which it counts.
 
 ghost use Rattle.std.specs.Prelude.{◌≡◌, [], ◌∷◌, ◌++◌, OnOk, IfOk};
-ghost use Rattle.wild_eval.specs.Setting.{shown_definition};
+ghost use Rattle.wild_eval.specs.Scope.{shown_definition};
 ghost use Rattle.wild_plan_spec.specs.Definitions.{entry_of, symbol_chunk, table_entry, table_entries, point_of, assigned_by, assigned_entries, provide_entry, provided_by, provided_entries, firm_entries, entry_names};
 ghost use Rattle.wild_plan.specs.Entries.{shown_entries};
 ghost use Rattle.wild_fates.specs.Shown.{shown, shown_place, shown_task};
@@ -9,7 +9,7 @@ ghost use Rattle.wild_fates.specs.Shown.{shown, shown_place, shown_task};
 use sqlite_items::Items;
 use std::alloc::Global;
 use wild_base::{Name, NoMemory};
-use wild_eval::{Definition, Entry};
+use wild_eval::{Definition, SymbolEntry};
 use wild_fates::{Place, Task};
 use wild_numbering::Numbering;
 use wild_plan_spec::{Chunk, Kept, SymbolRow};
@@ -27,7 +27,7 @@ pub fn point_of(place: usize) -> Point
 }
 
 #[tactic(auto, using(crate::proofs::Entries::entries_append))]
-fn push<'a>(entries: &mut Items<Entry<'a>>, entry: Entry<'a>) -> Result<(), NoMemory>
+fn push<'a>(entries: &mut Items<SymbolEntry<'a>>, entry: SymbolEntry<'a>) -> Result<(), NoMemory>
     ensures { OnOk result (shown_entries entries.new ≡ shown_entries entries.old ++ record { name = entry.entry.name.now; definition = shown_definition entry.entry.definition } ∷ []) }
 {
     entries.push(entry)?;
@@ -37,7 +37,7 @@ fn push<'a>(entries: &mut Items<Entry<'a>>, entry: Entry<'a>) -> Result<(), NoMe
 // Puts an entry behind the others, unless its name is empty.
 #[tactic(auto, using(crate::proofs::Entries::named_or_not))]
 fn push_named<'a>(
-    entries: &mut Items<Entry<'a>>,
+    entries: &mut Items<SymbolEntry<'a>>,
     name: &'a Name,
     definition: Definition<'a>,
 ) -> Result<(), NoMemory>
@@ -46,7 +46,7 @@ fn push_named<'a>(
     if name.is_empty() {
         Ok(())
     } else {
-        push(entries, Entry { name, definition })
+        push(entries, SymbolEntry { name, definition })
     }
 }
 
@@ -61,7 +61,7 @@ pub fn symbol_chunk(fates: &[Option<Kept>], symbol: &SymbolRow) -> Option<Chunk>
 }
 
 fn push_row<'a>(
-    entries: &mut Items<Entry<'a>>,
+    entries: &mut Items<SymbolEntry<'a>>,
     symbol: &'a SymbolRow,
     chunk: Option<Chunk>,
 ) -> Result<(), NoMemory>
@@ -82,7 +82,7 @@ fn push_row<'a>(
 }
 
 fn push_rows<'a>(
-    entries: &mut Items<Entry<'a>>,
+    entries: &mut Items<SymbolEntry<'a>>,
     fates: &[Option<Kept>],
     symbols: &'a [SymbolRow],
 ) -> Result<(), NoMemory>
@@ -95,7 +95,7 @@ fn push_rows<'a>(
 }
 
 fn push_assigned<'a>(
-    entries: &mut Items<Entry<'a>>,
+    entries: &mut Items<SymbolEntry<'a>>,
     index: usize,
     task: Option<Task<'a>>,
 ) -> Result<(), NoMemory>
@@ -114,7 +114,7 @@ fn push_assigned<'a>(
 #[tactic(auto, using(crate::proofs::Entries::named_or_not))]
 fn push_provide<'a>(
     alloc: Global,
-    entries: &mut Items<Entry<'a>>,
+    entries: &mut Items<SymbolEntry<'a>>,
     names: &mut Numbering,
     index: usize,
     provide: &'a ProvideSymbolDefinition,
@@ -130,7 +130,7 @@ fn push_provide<'a>(
     let definition = Definition::OfScript { value, point };
     push(
         entries,
-        Entry {
+        SymbolEntry {
             name: &provide.name,
             definition,
         },
@@ -139,7 +139,7 @@ fn push_provide<'a>(
 
 fn push_provided<'a>(
     alloc: Global,
-    entries: &mut Items<Entry<'a>>,
+    entries: &mut Items<SymbolEntry<'a>>,
     names: &mut Numbering,
     index: usize,
     task: Option<Task<'a>>,
@@ -154,7 +154,7 @@ fn push_provided<'a>(
 }
 
 fn push_all_assigned<'a>(
-    entries: &mut Items<Entry<'a>>,
+    entries: &mut Items<SymbolEntry<'a>>,
     places: &[Place<'a>],
 ) -> Result<(), NoMemory>
     ensures { OnOk result (shown_entries entries.new ≡ shown_entries entries.old ++ assigned_entries 0 (shown places.now)) }
@@ -171,7 +171,7 @@ pub fn find_entries<'a>(
     fates: &[Option<Kept>],
     symbols: &'a [SymbolRow],
     places: &[Place<'a>],
-) -> Result<Items<Entry<'a>>, NoMemory>
+) -> Result<Items<SymbolEntry<'a>>, NoMemory>
     ensures { IfOk result (λ entries. shown_entries entries ≡ firm_entries fates.now symbols.now (shown places.now)) }
 {
     let mut entries = Items::new(alloc);
@@ -183,7 +183,7 @@ pub fn find_entries<'a>(
 /// Puts the PROVIDEs, and their names, behind the others. Fails where memory runs out.
 pub fn push_all_provided<'a>(
     alloc: Global,
-    entries: &mut Items<Entry<'a>>,
+    entries: &mut Items<SymbolEntry<'a>>,
     names: &mut Numbering,
     places: &[Place<'a>],
 ) -> Result<(), NoMemory>

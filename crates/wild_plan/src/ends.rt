@@ -2,8 +2,8 @@
 
 ghost use Rattle.std.specs.Prelude.{◌≡◌, ◌++◌, OnOk};
 ghost use Rattle.std.specs.Option.{option_map, option_to_list};
-ghost use Rattle.wild_eval.specs.Setting.{path_of, setting_of, shown_definition};
-ghost use Rattle.wild_eval.specs.Table.{known_of};
+ghost use Rattle.wild_eval.specs.Scope.{path_of, scope_of, shown_definition};
+ghost use Rattle.wild_eval.specs.Addresses.{known_of};
 ghost use Rattle.wild_plan_spec.specs.Definitions as definitions;
 ghost use Rattle.wild_plan_spec.specs.End as spec;
 ghost use Rattle.wild_fates.specs.Shown.{shown, shown_task};
@@ -14,7 +14,7 @@ use crate::definitions::point_of;
 use sqlite_items::Items;
 use std::alloc::{AllocError, Global};
 use wild_base::{Fault, Name};
-use wild_eval::{Definition, Names, Path, Reader, Table};
+use wild_eval::{Addresses, Definition, Evaluator, Path, Scope};
 use wild_fates::{Place, Task};
 use wild_plan_spec::PlacedSymbol;
 use wild_script::{AssertCommand, Expression, ProvideSymbolDefinition};
@@ -24,8 +24,8 @@ use wild_script::{AssertCommand, Expression, ProvideSymbolDefinition};
 pub struct End<'a> {
     pub alloc: Global,
     /// The sections and the symbols.
-    pub names: &'a Names<'a>,
-    pub table: &'a Table,
+    pub scope: &'a Scope<'a>,
+    pub addresses: &'a Addresses,
 }
 
 // Whether the definition is the one at this place.
@@ -40,40 +40,36 @@ fn is_at(place: usize, definition: Option<Definition<'_>>) -> bool
 
 impl End<'_> {
     fn full(&self, path: &Path<'_>, place: usize, expression: &Expression) -> Result<u64, Fault>
-        ensures { Returns result (full (setting_of self.now.names.now) place (known_of self.now.table.now) 1024 (path_of path.now) expression.now (definitions.point_of place)) }
+        ensures { Returns result (full (scope_of self.now.scope.now) place (known_of self.now.addresses.now) 1024 (path_of path.now) expression.now (definitions.point_of place)) }
     {
-        let reader = Reader {
+        let evaluator = Evaluator {
             alloc: self.alloc,
-            names: self.names,
-            table: self.table,
+            scope: self.scope,
+            addresses: self.addresses,
             statement: place,
         };
-        reader.full(path, expression, point_of(place))
+        evaluator.full(path, expression, point_of(place))
     }
 
     // An expression has a value, and nothing is listed.
-    #[tactic(auto, unfolding(wild_plan_spec::specs::End::evaluated))]
-    fn evaluated(
-        &self,
-        place: usize,
-        expression: &Expression,
-    ) -> Result<Option<PlacedSymbol>, Fault>
-        ensures { Returns result (spec.evaluated (setting_of self.now.names.now) (known_of self.now.table.now) place expression.now) }
+    #[tactic(auto, unfolding(wild_plan_spec::specs::End::unlisted))]
+    fn unlisted(&self, place: usize, expression: &Expression) -> Result<Option<PlacedSymbol>, Fault>
+        ensures { Returns result (spec.unlisted (scope_of self.now.scope.now) (known_of self.now.addresses.now) place expression.now) }
     {
         self.full(&Path::Start, place, expression)?;
         Ok(None)
     }
 
     // A symbol with its value, which must not ask for itself.
-    #[tactic(auto, unfolding(wild_plan_spec::specs::End::placed))]
-    fn placed(
+    #[tactic(auto, unfolding(wild_plan_spec::specs::End::listed_symbol))]
+    fn listed_symbol(
         &self,
         place: usize,
         name: &Name,
         expression: &Expression,
         hidden: bool,
     ) -> Result<Option<PlacedSymbol>, Fault>
-        ensures { Returns result (spec.placed (setting_of self.now.names.now) (known_of self.now.table.now) place name.now expression.now hidden) }
+        ensures { Returns result (spec.listed_symbol (scope_of self.now.scope.now) (known_of self.now.addresses.now) place name.now expression.now hidden) }
     {
         let address = self.full(&Path::Through(name, &Path::Start), place, expression)?;
         Ok(Some(PlacedSymbol {
@@ -86,31 +82,31 @@ impl End<'_> {
 
     // An empty name is not listed.
     #[tactic(auto, using(crate::proofs::Named::assigned_by_name))]
-    fn assigned(
+    fn assignment_symbol(
         &self,
         place: usize,
         name: &Name,
         expression: &Expression,
     ) -> Result<Option<PlacedSymbol>, Fault>
-        ensures { Returns result (spec.assigned (setting_of self.now.names.now) (known_of self.now.table.now) place name.now expression.now) }
+        ensures { Returns result (spec.assignment_symbol (scope_of self.now.scope.now) (known_of self.now.addresses.now) place name.now expression.now) }
     {
         if name.is_empty() {
-            self.evaluated(place, expression)
+            self.unlisted(place, expression)
         } else {
-            self.placed(place, name, expression, false)
+            self.listed_symbol(place, name, expression, false)
         }
     }
 
     // Only where it is the definition that counts.
-    fn provided(
+    fn provide_symbol(
         &self,
         place: usize,
         definition: &ProvideSymbolDefinition,
     ) -> Result<Option<PlacedSymbol>, Fault>
-        ensures { Returns result (spec.provided (setting_of self.now.names.now) (known_of self.now.table.now) place definition.now) }
+        ensures { Returns result (spec.provide_symbol (scope_of self.now.scope.now) (known_of self.now.addresses.now) place definition.now) }
     {
-        if is_at(place, self.names.definition(&definition.name)) {
-            self.placed(
+        if is_at(place, self.scope.definition(&definition.name)) {
+            self.listed_symbol(
                 place,
                 &definition.name,
                 &definition.value,
@@ -127,19 +123,19 @@ impl End<'_> {
         place: usize,
         task: Option<Task<'_>>,
     ) -> Result<Option<PlacedSymbol>, Fault>
-        ensures { Returns result (spec.task_symbol (setting_of self.now.names.now) (known_of self.now.table.now) place (shown_task task.entry)) }
+        ensures { Returns result (spec.task_symbol (scope_of self.now.scope.now) (known_of self.now.addresses.now) place (shown_task task.entry)) }
     {
         match task {
-            Some(Task::Assign(name, expression)) => self.assigned(place, name, expression),
-            Some(Task::Provide(definition)) => self.provided(place, definition),
-            Some(Task::Locate(expression)) => self.evaluated(place, expression),
+            Some(Task::Assign(name, expression)) => self.assignment_symbol(place, name, expression),
+            Some(Task::Provide(definition)) => self.provide_symbol(place, definition),
+            Some(Task::Locate(expression)) => self.unlisted(place, expression),
             Some(Task::Check(_)) | None => Ok(None),
         }
     }
 
     /// The symbols of the places, in text order.
     fn symbols(&self, places: &[Place<'_>]) -> Result<Items<PlacedSymbol>, Fault>
-        ensures { Returns result (spec.symbols (setting_of self.now.names.now) (known_of self.now.table.now) 0 (shown places.now)) }
+        ensures { Returns result (spec.symbols (scope_of self.now.scope.now) (known_of self.now.addresses.now) 0 (shown places.now)) }
     {
         let mut found = Items::new(self.alloc);
         for (index, place) in places.iter().enumerate() {
@@ -149,32 +145,32 @@ impl End<'_> {
         Ok(found)
     }
 
-    fn tested(&self, place: usize, command: &AssertCommand) -> Result<(), Fault>
-        ensures { Returns result (spec.tested_at (setting_of self.now.names.now) (known_of self.now.table.now) place command.now) }
+    fn assert_statement(&self, place: usize, command: &AssertCommand) -> Result<(), Fault>
+        ensures { Returns result (spec.assert_holds (scope_of self.now.scope.now) (known_of self.now.addresses.now) place command.now) }
     {
-        let reader = Reader {
+        let evaluator = Evaluator {
             alloc: self.alloc,
-            names: self.names,
-            table: self.table,
+            scope: self.scope,
+            addresses: self.addresses,
             statement: place,
         };
-        reader.check(command, point_of(place))?;
+        evaluator.check(command, point_of(place))?;
         Ok(())
     }
 
     #[tactic(auto, unfolding(wild_plan_spec::specs::End::task_holds))]
     fn task_holds(&self, place: usize, task: Option<Task<'_>>) -> Result<(), Fault>
-        ensures { Returns result (spec.task_holds (setting_of self.now.names.now) (known_of self.now.table.now) place (shown_task task.entry)) }
+        ensures { Returns result (spec.task_holds (scope_of self.now.scope.now) (known_of self.now.addresses.now) place (shown_task task.entry)) }
     {
         match task {
-            Some(Task::Check(command)) => self.tested(place, command),
+            Some(Task::Check(command)) => self.assert_statement(place, command),
             _ => Ok(()),
         }
     }
 
     // The conditions of the places, in text order.
     fn conditions(&self, places: &[Place<'_>]) -> Result<(), Fault>
-        ensures { Returns result (spec.conditions (setting_of self.now.names.now) (known_of self.now.table.now) 0 (shown places.now)) }
+        ensures { Returns result (spec.conditions (scope_of self.now.scope.now) (known_of self.now.addresses.now) 0 (shown places.now)) }
     {
         for (index, place) in places.iter().enumerate() {
             self.task_holds(index, place.task())?;
@@ -184,7 +180,7 @@ impl End<'_> {
 
     /// The symbols of the places, where all have values and all conditions hold; or the first fault.
     pub fn finish(&self, places: &[Place<'_>]) -> Result<Items<PlacedSymbol>, Fault>
-        ensures { Returns result (spec.finished (setting_of self.now.names.now) (known_of self.now.table.now) (shown places.now)) }
+        ensures { Returns result (spec.finished (scope_of self.now.scope.now) (known_of self.now.addresses.now) (shown places.now)) }
     {
         let found = self.symbols(places)?;
         self.conditions(places)?;

@@ -6,14 +6,14 @@ mod chunks;
 mod definitions;
 mod ends;
 mod listing;
+mod lists;
 mod overlap;
-mod placement;
-mod planning;
+mod pipeline;
 mod traits;
 mod walk;
 
-pub use placement::Plan;
-pub use planning::plan;
+pub use lists::Plan;
+pub use pipeline::plan;
 pub use wild_plan_spec::{
     Chunk, InputRow, InputRows, InputTable, Names, PlacedInput, PlacedLocation, PlacedSection,
     PlacedSymbol, PlanOptions, RowNames, SymbolRow, SymbolRows,

@@ -4,7 +4,7 @@ ghost use Rattle.std.specs.Prelude.{◌≡◌, ◌++◌, OnOk, IfOk};
 ghost use Rattle.wild_plan_spec.specs.Layout.{placed_input, placed_inputs, row_names, table_symbol, table_symbols};
 ghost use Rattle.wild_plan.specs.Listed.{flags_by, section_by, sections_by};
 ghost use Rattle.wild_fates.specs.Pointed.{pointed};
-ghost use Rattle.wild_eval.specs.Table.{known_of};
+ghost use Rattle.wild_eval.specs.Addresses.{known_of};
 ghost use Rattle.wild_plan.specs.Traits.{traits_at};
 
 use crate::definitions::symbol_chunk;
@@ -13,7 +13,7 @@ use bitflags::Flags;
 use sqlite_items::Items;
 use std::alloc::Global;
 use wild_base::{InputFlags, Name, NoMemory};
-use wild_eval::Table;
+use wild_eval::Addresses;
 use wild_plan_spec::{
     Chunk, InputRow, Kept, PlacedInput, PlacedSection, PlacedSymbol, RowNames, SymbolRow,
 };
@@ -35,20 +35,20 @@ fn flags_by(traits: Traits) -> InputFlags
 /// The section of this number, with these traits.
 fn placed_section(
     alloc: Global,
-    table: &Table,
+    addresses: &Addresses,
     traits: Traits,
     number: usize,
     name: &Name,
 ) -> Result<PlacedSection, NoMemory>
-    ensures { IfOk result (λ placed. placed ≡ section_by (known_of table.now) number name.now traits) }
+    ensures { IfOk result (λ placed. placed ≡ section_by (known_of addresses.now) number name.now traits) }
 {
     let name = name.copy(alloc)?;
-    let start = table.start(number);
+    let start = addresses.start(number);
     Ok(PlacedSection {
         name,
         start,
-        load: table.load(number),
-        size: table.end(number).saturating_sub(start),
+        load: addresses.load(number),
+        size: addresses.end(number).saturating_sub(start),
         alignment: traits.alignment,
         flags: flags_by(traits),
         fill: None,
@@ -61,11 +61,11 @@ fn placed_section(
 /// The sections of these names, numbered in their order.
 pub fn placed_sections(
     alloc: Global,
-    table: &Table,
+    addresses: &Addresses,
     traits: &SectionTraits,
     names: &[&Name],
 ) -> Result<Items<PlacedSection>, NoMemory>
-    ensures { IfOk result (λ placed. placed ≡ sections_by (known_of table.now) (traits_at traits.now) 0 (pointed names.now)) }
+    ensures { IfOk result (λ placed. placed ≡ sections_by (known_of addresses.now) (traits_at traits.now) 0 (pointed names.now)) }
 {
     let mut placed = Items::new(alloc);
     for (i, name) in names.iter().enumerate() {
@@ -74,15 +74,15 @@ pub fn placed_sections(
     Ok(placed)
 }
 
-fn placed_input(table: &Table, row: usize, fate: Option<Kept>) -> PlacedInput
-    ensures { result ≡ placed_input (known_of table.now) row fate }
+fn placed_input(addresses: &Addresses, row: usize, fate: Option<Kept>) -> PlacedInput
+    ensures { result ≡ placed_input (known_of addresses.now) row fate }
 {
     match fate {
         None => PlacedInput::Discarded,
         Some(kept) => PlacedInput::Placed {
             section: kept.chunk.section,
             chunk: kept.chunk.number,
-            address: table.address(row),
+            address: addresses.address(row),
         },
     }
 }
@@ -90,10 +90,10 @@ fn placed_input(table: &Table, row: usize, fate: Option<Kept>) -> PlacedInput
 /// Where each row went, in table order, by its fate.
 pub fn placed_inputs(
     alloc: Global,
-    table: &Table,
+    addresses: &Addresses,
     fates: &[Option<Kept>],
 ) -> Result<Items<PlacedInput>, NoMemory>
-    ensures { IfOk result (λ placed. placed ≡ placed_inputs (known_of table.now) 0 fates.now) }
+    ensures { IfOk result (λ placed. placed ≡ placed_inputs (known_of addresses.now) 0 fates.now) }
 {
     let mut placed = Items::new(alloc);
     for (i, fate) in fates.iter().enumerate() {
@@ -126,11 +126,11 @@ pub fn row_names(alloc: Global, rows: &[InputRow]) -> Result<Items<RowNames>, No
 fn push_symbol(
     alloc: Global,
     symbols: &mut Items<PlacedSymbol>,
-    table: &Table,
+    addresses: &Addresses,
     symbol: &SymbolRow,
     chunk: Option<Chunk>,
 ) -> Result<(), NoMemory>
-    ensures { OnOk result (symbols.new ≡ symbols.old ++ table_symbol (known_of table.now) symbol.now chunk) }
+    ensures { OnOk result (symbols.new ≡ symbols.old ++ table_symbol (known_of addresses.now) symbol.now chunk) }
 {
     let Some(chunk) = chunk else {
         return Ok(());
@@ -138,7 +138,7 @@ fn push_symbol(
     let name = symbol.name.copy(alloc)?;
     symbols.push(PlacedSymbol {
         name,
-        address: table.address(symbol.row).wrapping_add(symbol.offset),
+        address: addresses.address(symbol.row).wrapping_add(symbol.offset),
         section: Some(chunk.section),
         hidden: false,
     })?;
@@ -148,11 +148,11 @@ fn push_symbol(
 /// The symbols of the table, in table order, by the fates of the rows.
 pub fn placed_symbols(
     alloc: Global,
-    table: &Table,
+    addresses: &Addresses,
     fates: &[Option<Kept>],
     symbols: &[SymbolRow],
 ) -> Result<Items<PlacedSymbol>, NoMemory>
-    ensures { IfOk result (λ placed. placed ≡ table_symbols (known_of table.now) fates.now symbols.now) }
+    ensures { IfOk result (λ placed. placed ≡ table_symbols (known_of addresses.now) fates.now symbols.now) }
 {
     let mut placed = Items::new(alloc);
     for symbol in symbols {

@@ -4,9 +4,9 @@ ghost use Rattle.std.specs.Prelude.{◌≡◌, ◌⊎◌, ℕ, length, IfOk, IfE
 ghost use Rattle.wild_names.specs.declared.fault.Fault.TheVariants as fault;
 ghost use Rattle.wild_value_spec.specs.Answer.{Returns};
 ghost use Rattle.wild_value_spec.specs.Value.{sum_of};
-ghost use Rattle.wild_eval.specs.Setting.{setting_of};
+ghost use Rattle.wild_eval.specs.Scope.{scope_of};
 ghost use Rattle.wild_plan_spec.specs.Chunks.{largest};
-ghost use Rattle.wild_plan_spec.specs.Line.{first_state, up, opened, row_placed, rows_placed, chunk_placed, collected, ended, ended_alone, ended_behind, closed, location_set, passed, line};
+ghost use Rattle.wild_plan_spec.specs.Steps.{first_state, up, section_opened, row_placed, rows_placed, chunk_placed, chunk_collected, section_ended, section_ended_alone, section_ended_after, section_closed, location_set, counter_noted, step};
 ghost use Rattle.wild_plan_spec.specs.Walk.{Stands, Refuses};
 ghost use Rattle.wild_plan.specs.Chunks.{rows_at};
 ghost use Rattle.wild_plan.specs.Moves.{Moves, state_of};
@@ -18,7 +18,7 @@ use crate::overlap::sharing;
 use sqlite_items::Items;
 use std::alloc::Global;
 use wild_base::{Alignment, Fault, Name, NoMemory, alignment};
-use wild_eval::{Names, Path, Reader, Table};
+use wild_eval::{Addresses, Evaluator, Path, Scope};
 use wild_fates::Place;
 use wild_plan_spec::{Chunk, ChunkRow, PlacedLocation};
 use wild_script::Expression;
@@ -30,12 +30,12 @@ pub struct Walk {
     counter: u64,
     /// Where the next row of the open section goes.
     cursor: u64,
-    pub table: Table,
+    pub addresses: Addresses,
     /// What the statements so far made of the location counter.
     pub locations: Items<PlacedLocation>,
 }
 
-#[tactic(auto, unfolding(wild_plan_spec::specs::Line::up))]
+#[tactic(auto, unfolding(wild_plan_spec::specs::Steps::up))]
 fn up(number: u64, alignment: Alignment) -> Result<u64, Fault>
     ensures { Returns result (up number alignment) }
 {
@@ -70,12 +70,12 @@ fn largest(rows: &[ChunkRow]) -> Alignment
 }
 
 /// The fault of two sections that share an address.
-fn overlap(alloc: Global, names: &Names<'_>, first: usize, second: usize) -> Result<Fault, NoMemory>
-    ensures { IfOk result (λ f. f ≡ fault.Overlap ((setting_of names.now).section_name first) ((setting_of names.now).section_name second)) }
+fn overlap(alloc: Global, scope: &Scope<'_>, first: usize, second: usize) -> Result<Fault, NoMemory>
+    ensures { IfOk result (λ f. f ≡ fault.Overlap ((scope_of scope.now).section_name first) ((scope_of scope.now).section_name second)) }
 {
     Ok(Fault::Overlap {
-        first: Name::new(alloc, names.name_of(first))?,
-        second: Name::new(alloc, names.name_of(second))?,
+        first: Name::new(alloc, scope.name_of(first))?,
+        second: Name::new(alloc, scope.name_of(second))?,
     })
 }
 
@@ -86,29 +86,29 @@ impl Walk {
         Walk {
             counter: 0,
             cursor: 0,
-            table: Table::new(alloc),
+            addresses: Addresses::new(alloc),
             locations: Items::new(alloc),
         }
     }
 
-    #[tactic(auto, unfolding(wild_plan_spec::specs::Line::opened))]
+    #[tactic(auto, unfolding(wild_plan_spec::specs::Steps::section_opened))]
     fn open(&mut self, section: usize, alignment: Alignment) -> Result<(), Fault>
-        ensures { Moves result self.new (opened section alignment (state_of self.old)) }
+        ensures { Moves result self.new (section_opened section alignment (state_of self.old)) }
     {
         let start = up(self.counter, alignment)?;
-        self.table.learn_start(section, start)?;
-        self.table.learn_load(section, start)?;
+        self.addresses.learn_start(section, start)?;
+        self.addresses.learn_load(section, start)?;
         self.cursor = start;
         Ok(())
     }
 
-    #[tactic(auto, unfolding(wild_plan_spec::specs::Line::row_placed))]
+    #[tactic(auto, unfolding(wild_plan_spec::specs::Steps::row_placed))]
     fn place_row(&mut self, row: &ChunkRow) -> Result<(), Fault>
         ensures { Moves result self.new (row_placed row.now (state_of self.old)) }
     {
         let size = up(row.size, row.alignment.0)?;
         let next = sum(self.cursor, size)?;
-        self.table.learn_address(row.row, self.cursor)?;
+        self.addresses.learn_address(row.row, self.cursor)?;
         self.cursor = next;
         Ok(())
     }
@@ -122,7 +122,7 @@ impl Walk {
         Ok(())
     }
 
-    #[tactic(auto, unfolding(wild_plan_spec::specs::Line::chunk_placed))]
+    #[tactic(auto, unfolding(wild_plan_spec::specs::Steps::chunk_placed))]
     fn place_chunk(&mut self, rows: &[ChunkRow]) -> Result<(), Fault>
         ensures { Moves result self.new (chunk_placed rows.now (state_of self.old)) }
     {
@@ -131,9 +131,9 @@ impl Walk {
     }
 
     // The rows of the chunk that a matcher collects for, if it has one.
-    #[tactic(auto, unfolding(wild_plan_spec::specs::Line::collected))]
+    #[tactic(auto, unfolding(wild_plan_spec::specs::Steps::chunk_collected))]
     fn collect(&mut self, chunks: &Chunks, chunk: Option<Chunk>) -> Result<(), Fault>
-        ensures { Moves result self.new (collected (rows_at chunks.now) chunk (state_of self.old)) }
+        ensures { Moves result self.new (chunk_collected (rows_at chunks.now) chunk (state_of self.old)) }
     {
         match chunk {
             None => Ok(()),
@@ -141,68 +141,68 @@ impl Walk {
         }
     }
 
-    #[tactic(auto, unfolding(wild_plan_spec::specs::Line::ended))]
+    #[tactic(auto, unfolding(wild_plan_spec::specs::Steps::section_ended))]
     fn end(&mut self, section: usize) -> Result<(), Fault>
-        ensures { Moves result self.new (ended section (state_of self.old)) }
+        ensures { Moves result self.new (section_ended section (state_of self.old)) }
     {
-        self.table.learn_end(section, self.cursor)?;
+        self.addresses.learn_end(section, self.cursor)?;
         self.counter = self.cursor;
         Ok(())
     }
 
-    #[tactic(auto, unfolding(wild_plan_spec::specs::Line::ended_alone))]
-    fn end_alone(&mut self, alloc: Global, names: &Names<'_>, section: usize) -> Result<(), Fault>
-        ensures { Moves result self.new (ended_alone (setting_of names.now) section (state_of self.old)) }
+    #[tactic(auto, unfolding(wild_plan_spec::specs::Steps::section_ended_alone))]
+    fn end_alone(&mut self, alloc: Global, scope: &Scope<'_>, section: usize) -> Result<(), Fault>
+        ensures { Moves result self.new (section_ended_alone (scope_of scope.now) section (state_of self.old)) }
     {
-        let start = self.table.start(section);
-        match sharing(&self.table, start, self.cursor, section) {
+        let start = self.addresses.start(section);
+        match sharing(&self.addresses, start, self.cursor, section) {
             None => self.end(section),
-            Some(other) => Err(overlap(alloc, names, other, section)?),
+            Some(other) => Err(overlap(alloc, scope, other, section)?),
         }
     }
 
     // The rows of the rest are placed, and the section ends.
-    #[tactic(auto, unfolding(wild_plan_spec::specs::Line::ended_behind))]
+    #[tactic(auto, unfolding(wild_plan_spec::specs::Steps::section_ended_after))]
     fn end_behind(
         &mut self,
         given: &Given<'_>,
         rest: &[ChunkRow],
         section: usize,
     ) -> Result<(), Fault>
-        ensures { Moves result self.new (ended_behind (setting_of given.now.names.now) rest.now section (state_of self.old)) }
+        ensures { Moves result self.new (section_ended_after (scope_of given.now.scope.now) rest.now section (state_of self.old)) }
     {
         self.place_chunk(rest)?;
-        self.end_alone(given.alloc, given.names, section)
+        self.end_alone(given.alloc, given.scope, section)
     }
 
-    #[tactic(auto, unfolding(wild_plan_spec::specs::Line::closed))]
+    #[tactic(auto, unfolding(wild_plan_spec::specs::Steps::section_closed))]
     fn close(&mut self, given: &Given<'_>, section: usize, rest: Option<Chunk>) -> Result<(), Fault>
-        ensures { Moves result self.new (closed (setting_of given.now.names.now) (rows_at given.now.chunks.now) section rest (state_of self.old)) }
+        ensures { Moves result self.new (section_closed (scope_of given.now.scope.now) (rows_at given.now.chunks.now) section rest (state_of self.old)) }
     {
         match rest {
-            None => self.end_alone(given.alloc, given.names, section),
+            None => self.end_alone(given.alloc, given.scope, section),
             Some(chunk) => self.end_behind(given, given.chunks.rows(chunk), section),
         }
     }
 
-    #[tactic(auto, unfolding(wild_plan_spec::specs::Line::location_set))]
+    #[tactic(auto, unfolding(wild_plan_spec::specs::Steps::location_set))]
     fn set_location(
         &mut self,
         alloc: Global,
-        names: &Names<'_>,
+        scope: &Scope<'_>,
         place: usize,
         expression: &Expression,
     ) -> Result<(), Fault>
-        ensures { Moves result self.new (location_set (setting_of names.now) place expression.now (state_of self.old)) }
+        ensures { Moves result self.new (location_set (scope_of scope.now) place expression.now (state_of self.old)) }
     {
-        self.table.learn_dot(place, self.counter)?;
-        let reader = Reader {
+        self.addresses.learn_dot(place, self.counter)?;
+        let evaluator = Evaluator {
             alloc,
-            names,
-            table: &self.table,
+            scope,
+            addresses: &self.addresses,
             statement: place,
         };
-        let address = reader.full(&Path::Start, expression, point_of(place))?;
+        let address = evaluator.full(&Path::Start, expression, point_of(place))?;
         self.locations.push(PlacedLocation {
             statement: place,
             address,
@@ -212,25 +212,25 @@ impl Walk {
     }
 
     // A place that waits until all are laid out.
-    #[tactic(auto, unfolding(wild_plan_spec::specs::Line::passed))]
+    #[tactic(auto, unfolding(wild_plan_spec::specs::Steps::counter_noted))]
     fn pass(&mut self, place: usize, dot: u64) -> Result<(), Fault>
-        ensures { Moves result self.new (passed place dot (state_of self.old)) }
+        ensures { Moves result self.new (counter_noted place dot (state_of self.old)) }
     {
-        self.table.learn_dot(place, dot)?;
+        self.addresses.learn_dot(place, dot)?;
         Ok(())
     }
 
-    #[tactic(auto, unfolding(wild_plan_spec::specs::Line::line))]
+    #[tactic(auto, unfolding(wild_plan_spec::specs::Steps::step))]
     fn step(&mut self, given: &Given<'_>, number: usize, place: &Place<'_>) -> Result<(), Fault>
-        ensures { Moves result self.new (line (setting_of given.now.names.now) (rows_at given.now.chunks.now) number (shown_place place.now) (state_of self.old)) }
+        ensures { Moves result self.new (step (scope_of given.now.scope.now) (rows_at given.now.chunks.now) number (shown_place place.now) (state_of self.old)) }
     {
         match *place {
             Place::SetLocation(expression) => {
-                self.set_location(given.alloc, given.names, number, expression)
+                self.set_location(given.alloc, given.scope, number, expression)
             }
             Place::Within(_) => self.pass(number, self.counter),
             Place::Outside(_) => self.pass(number, 0),
-            Place::Open(section) => self.open(section, given.names.alignment(section)),
+            Place::Open(section) => self.open(section, given.scope.alignment(section)),
             Place::Collect(chunk, _) => self.collect(given.chunks, chunk),
             Place::Rows(chunk) => self.place_chunk(given.chunks.rows(chunk)),
             Place::Close(section, rest) => self.close(given, section, rest),
@@ -244,14 +244,14 @@ impl Walk {
 pub struct Given<'a> {
     pub alloc: Global,
     /// The sections and the symbols.
-    pub names: &'a Names<'a>,
+    pub scope: &'a Scope<'a>,
     pub chunks: &'a Chunks,
 }
 
 /// Lays out the places: what stands behind the last one, or the fault of the first that refuses.
 pub fn lay_out(given: &Given<'_>, places: &[Place<'_>]) -> Result<Walk, Fault>
-    ensures laid_out { IfOk result (λ walk. Stands (setting_of given.now.names.now) (rows_at given.now.chunks.now) (shown places.now) (length (shown places.now)) (state_of walk)) }
-    ensures refused { IfErr result (λ f. (f ≡ fault.NoMemory) ⊎ Refuses (setting_of given.now.names.now) (rows_at given.now.chunks.now) (shown places.now) f) }
+    ensures laid_out { IfOk result (λ walk. Stands (scope_of given.now.scope.now) (rows_at given.now.chunks.now) (shown places.now) (length (shown places.now)) (state_of walk)) }
+    ensures refused { IfErr result (λ f. (f ≡ fault.NoMemory) ⊎ Refuses (scope_of given.now.scope.now) (rows_at given.now.chunks.now) (shown places.now) f) }
 {
     let mut walk = Walk::new(given.alloc);
     for (number, place) in places.iter().enumerate() {

@@ -13,9 +13,9 @@ use Rattle.wild_plan_spec.specs.declared.row.InputTable.{InputTable}
 use Rattle.wild_plan_spec.specs.Chunks.{largest_alignment, section_rows}
 use Rattle.wild_plan_spec.specs.Fates.{fates_of, section_names}
 use Rattle.wild_plan_spec.specs.Fit.{IsLaid}
-use Rattle.wild_plan_spec.specs.Line.{State}
+use Rattle.wild_plan_spec.specs.Steps.{State}
 use Rattle.wild_plan_spec.specs.Names.{Name}
-use Rattle.wild_plan_spec.specs.Settings.{alignments_of, setting_of}
+use Rattle.wild_plan_spec.specs.Scopes.{alignments_of, scope_of}
 use Rattle.wild_plan_laws.specs.Holding.{LiesIn, RowHolds, SectionHolds, LaidSectionStands}
 use Rattle.wild_plan_laws.proofs.Chunked.{chunk_rows}
 use Rattle.wild_plan_laws.proofs.Laid.{GoesTo, Behind, Amid, nothing_behind, behind_alike, opens_amid, chunk_amid, ends_behind, not_both}
@@ -33,15 +33,15 @@ module _ (script : Bytes) (t : LinkerScript) (inputs : InputTable) (state : Stat
   fates = fates_of t inputs
 
   -- what holds behind all sections
-  all_behind : Behind (setting_of script t inputs) inputs.rows fates (length (section_names t inputs)) state.known
+  all_behind : Behind (scope_of script t inputs) inputs.rows fates (length (section_names t inputs)) state.known
   all_behind =
-      let setting = setting_of script t inputs in
-      walked setting f.order (Behind setting inputs.rows fates) (Amid setting inputs.rows fates)
-      (behind_alike setting inputs.rows fates)
-      (opens_amid setting inputs.rows fates)
-      (λ q st next h e. chunk_amid setting inputs.rows fates q (f.order q) st next (chunk_rows inputs.rows fates q (f.order q) (f.ordered q)) h e)
-      (ends_behind setting inputs.rows fates)
-      t inputs state f.stands (nothing_behind setting inputs.rows fates)
+      let scope = scope_of script t inputs in
+      walked scope f.order (Behind scope inputs.rows fates) (Amid scope inputs.rows fates)
+      (behind_alike scope inputs.rows fates)
+      (opens_amid scope inputs.rows fates)
+      (λ q st next h e. chunk_amid scope inputs.rows fates q (f.order q) st next (chunk_rows inputs.rows fates q (f.order q) (f.ordered q)) h e)
+      (ends_behind scope inputs.rows fates)
+      t inputs state f.stands (nothing_behind scope inputs.rows fates)
 
   pub sections_stand : (s : ℕ) (name : Name) → slice_get (section_names t inputs) s ≡ Some name → LaidSectionStands state.known s (largest_alignment (section_rows s inputs.rows fates))
   sections_stand s name there =
@@ -73,7 +73,7 @@ module _ (script : Bytes) (t : LinkerScript) (inputs : InputTable) (state : Stat
   -- the section of a row holds what the row holds
   record Within (r x : ℕ) : Type 0 where
     number : ℕ
-    goes : GoesTo (setting_of script t inputs) inputs.rows fates r number
+    goes : GoesTo (scope_of script t inputs) inputs.rows fates r number
     holds : SectionHolds state.known number x
 
   within : (r x : ℕ) → RowHolds inputs.rows state.known r x → Within r x
@@ -94,4 +94,4 @@ module _ (script : Bytes) (t : LinkerScript) (inputs : InputTable) (state : Stat
       let first = within p x one in
       let second = within r x other in
       let same = sections_do_not_overlap first.number second.number x first.holds second.holds in
-      all_behind.rows_apart second.number p r x (subst (GoesTo (setting_of script t inputs) inputs.rows fates p) same first.goes) second.goes one other
+      all_behind.rows_apart second.number p r x (subst (GoesTo (scope_of script t inputs) inputs.rows fates p) same first.goes) second.goes one other

@@ -8,8 +8,8 @@ use Rattle.wild_expression_tree.specs.declared.tree.Expression.{Expression}
 use Rattle.wild_script.specs.Tree.{Bytes}
 use Rattle.wild_script.specs.declared.tree.LinkerScript.{LinkerScript}
 use Rattle.wild_value_spec.specs.Answer.{◌>>=◌}
-use Rattle.wild_value_spec.specs.Known.{Known, Entry, IsPart, Start, Load, End, Address, Dot, or_else, with_entry}
-use Rattle.wild_value_spec.specs.Setting.{Setting}
+use Rattle.wild_value_spec.specs.Known.{Known, Asked, IsPart, Start, Load, End, Address, Dot, or_else, with_number}
+use Rattle.wild_value_spec.specs.Scope.{Scope}
 use Rattle.wild_value_spec.specs.Value.{sum_of, full}
 use Rattle.wild_value_laws.specs.Stable.{Stays}
 use Rattle.wild_value_laws.proofs.Stable.{full_values_stay}
@@ -20,8 +20,8 @@ use Rattle.wild_plan_spec.specs.declared.row.InputTable.{InputTable}
 use Rattle.wild_plan_spec.specs.Definitions.{point_of}
 use Rattle.wild_plan_spec.specs.Places.{Place, SetLocation, Within, Outside, Open, Collect, Rows, Close, Idle}
 use Rattle.wild_plan_spec.specs.Orphans.{places_of}
-use Rattle.wild_plan_spec.specs.Settings.{setting_of}
-use Rattle.wild_plan_spec.specs.Line.{State, up, row_placed, rows_placed, chunk_placed, collected, opened, ended, closed_by, ended_alone, ended_behind, closed, passed, location_set, line}
+use Rattle.wild_plan_spec.specs.Scopes.{scope_of}
+use Rattle.wild_plan_spec.specs.Steps.{State, up, row_placed, rows_placed, chunk_placed, chunk_collected, section_opened, section_ended, section_closed_by, section_ended_alone, section_ended_after, section_closed, counter_noted, location_set, step}
 use Rattle.wild_plan_spec.specs.Walk.{Stands}
 use Rattle.wild_plan_spec.specs.Fit.{IsLaid}
 use Rattle.wild_plan_spec.proofs.Standing.{place_at}
@@ -33,8 +33,8 @@ or_kept : (o m : Option ℕ) (n : ℕ) → o ≡ Some n → or_else o m ≡ Some
 or_kept (Some k) m n h = h
 or_kept None m n h = absurd (cc)
 
-pub grown_entry : (x : Entry) (n : ℕ) (known : Known) → IsPart known (with_entry x n known)
-unfolding with_entry
+pub grown_entry : (x : Asked) (n : ℕ) (known : Known) → IsPart known (with_number x n known)
+unfolding with_number
 grown_entry x n known y m h = or_kept (known y) _ m h
 
 abbrev IsPrefix : List PlacedLocation → List PlacedLocation → Type 0
@@ -74,8 +74,8 @@ row_grows c st next e =
     let first = bind_ok (up c.size c.alignment.0) _ next e in
     let second = bind_ok (sum_of st.cursor first.0) _ next first.2 in
     let both = second.2 in
-    let same : record st { cursor = second.0; known = with_entry (Address c.row) st.cursor st.known } ≡ next = cc in
-    subst (λ (s : State). Grows st s) same (knows_more st (record st { cursor = second.0; known = with_entry (Address c.row) st.cursor st.known }) (grown_entry (Address c.row) st.cursor st.known) refl)
+    let same : record st { cursor = second.0; known = with_number (Address c.row) st.cursor st.known } ≡ next = cc in
+    subst (λ (s : State). Grows st s) same (knows_more st (record st { cursor = second.0; known = with_number (Address c.row) st.cursor st.known }) (grown_entry (Address c.row) st.cursor st.known) refl)
 
 pub rows_grow : (cs : List ChunkRow) (st next : State) → rows_placed cs st ≡ Ok next → Grows st next
 rows_grow [] st next e = let same : st ≡ next = cc in subst (λ (s : State). Grows st s) same (grows_not st)
@@ -90,68 +90,68 @@ chunk_grows cs st next e =
     let later = rows_grow cs (record st { cursor = first.0 }) next first.2 in
     record { known = later.known; locations = later.locations }
 
-open_grows : (s alignment : ℕ) (st next : State) → opened s alignment st ≡ Ok next → Grows st next
-unfolding opened
+open_grows : (s alignment : ℕ) (st next : State) → section_opened s alignment st ≡ Ok next → Grows st next
+unfolding section_opened
 open_grows s alignment st next e =
     let first = bind_ok (up st.counter alignment) _ next e in
     let both = first.2 in
-    let same : record st { cursor = first.0; known = with_entry (Load s) first.0 (with_entry (Start s) first.0 st.known) } ≡ next = cc in
-    subst (λ (u : State). Grows st u) same (knows_more st (record st { cursor = first.0; known = with_entry (Load s) first.0 (with_entry (Start s) first.0 st.known) })
-    (λ x n h. grown_entry (Load s) first.0 (with_entry (Start s) first.0 st.known) x n (grown_entry (Start s) first.0 st.known x n h)) refl)
+    let same : record st { cursor = first.0; known = with_number (Load s) first.0 (with_number (Start s) first.0 st.known) } ≡ next = cc in
+    subst (λ (u : State). Grows st u) same (knows_more st (record st { cursor = first.0; known = with_number (Load s) first.0 (with_number (Start s) first.0 st.known) })
+    (λ x n h. grown_entry (Load s) first.0 (with_number (Start s) first.0 st.known) x n (grown_entry (Start s) first.0 st.known x n h)) refl)
 
-pass_grows : (i n : ℕ) (st next : State) → passed i n st ≡ Ok next → Grows st next
-unfolding passed
+pass_grows : (i n : ℕ) (st next : State) → counter_noted i n st ≡ Ok next → Grows st next
+unfolding counter_noted
 pass_grows i n st next e =
-    let same : record st { known = with_entry (Dot i) n st.known } ≡ next = cc in
-    subst (λ (u : State). Grows st u) same (knows_more st (record st { known = with_entry (Dot i) n st.known }) (grown_entry (Dot i) n st.known) refl)
+    let same : record st { known = with_number (Dot i) n st.known } ≡ next = cc in
+    subst (λ (u : State). Grows st u) same (knows_more st (record st { known = with_number (Dot i) n st.known }) (grown_entry (Dot i) n st.known) refl)
 
-end_grows : (s : ℕ) (st next : State) → ended s st ≡ Ok next → Grows st next
-unfolding ended
+end_grows : (s : ℕ) (st next : State) → section_ended s st ≡ Ok next → Grows st next
+unfolding section_ended
 end_grows s st next e =
-    let same : record st { counter = st.cursor; known = with_entry (End s) st.cursor st.known } ≡ next = cc in
-    subst (λ (u : State). Grows st u) same (knows_more st (record st { counter = st.cursor; known = with_entry (End s) st.cursor st.known }) (grown_entry (End s) st.cursor st.known) refl)
+    let same : record st { counter = st.cursor; known = with_number (End s) st.cursor st.known } ≡ next = cc in
+    subst (λ (u : State). Grows st u) same (knows_more st (record st { counter = st.cursor; known = with_number (End s) st.cursor st.known }) (grown_entry (End s) st.cursor st.known) refl)
 
-module _ (setting : Setting) (order : Chunk → List ChunkRow) where
-  closed_grows : (s : ℕ) (o : Option ℕ) (st next : State) → closed_by setting s o st ≡ Ok next → Grows st next
+module _ (scope : Scope) (order : Chunk → List ChunkRow) where
+  closed_grows : (s : ℕ) (o : Option ℕ) (st next : State) → section_closed_by scope s o st ≡ Ok next → Grows st next
   closed_grows s None st next e = end_grows s st next e
   closed_grows s (Some other) st next e = absurd (cc)
 
-  pub alone_grows : (s : ℕ) (st next : State) → ended_alone setting s st ≡ Ok next → Grows st next
-  unfolding ended_alone
+  pub alone_grows : (s : ℕ) (st next : State) → section_ended_alone scope s st ≡ Ok next → Grows st next
+  unfolding section_ended_alone
   alone_grows s st next e = closed_grows s _ st next e
 
-  rest_grows : (s : ℕ) (rest : Option Chunk) (st next : State) → closed setting order s rest st ≡ Ok next → Grows st next
-  unfolding closed ended_behind
+  rest_grows : (s : ℕ) (rest : Option Chunk) (st next : State) → section_closed scope order s rest st ≡ Ok next → Grows st next
+  unfolding section_closed section_ended_after
   rest_grows s None st next e = alone_grows s st next e
   rest_grows s (Some q) st next e =
-      let first = bind_ok (chunk_placed (order q) st) (ended_alone setting s) next e in
+      let first = bind_ok (chunk_placed (order q) st) (section_ended_alone scope s) next e in
       grows_on st first.0 next (chunk_grows (order q) st first.0 first.1) (alone_grows s first.0 next first.2)
 
   -- what a location comes to
   record Set (i : ℕ) (e : Expression) (st next : State) : Type 0 where
     address : ℕ
-    value : full setting i next.known 1024 [] e (point_of i) ≡ Ok address
+    value : full scope i next.known 1024 [] e (point_of i) ≡ Ok address
     listed : next.locations ≡ st.locations ++ record { statement = i; address = address } ∷ []
     grown : IsPart st.known next.known
 
-  location_sets : (i : ℕ) (e : Expression) (st next : State) → location_set setting i e st ≡ Ok next → Set i e st next
+  location_sets : (i : ℕ) (e : Expression) (st next : State) → location_set scope i e st ≡ Ok next → Set i e st next
   unfolding location_set
   location_sets i e st next goes =
-      let first = bind_ok (full setting i (with_entry (Dot i) st.counter st.known) 1024 [] e (point_of i)) _ next goes in
+      let first = bind_ok (full scope i (with_number (Dot i) st.counter st.known) 1024 [] e (point_of i)) _ next goes in
       let both = first.2 in
-      let same : record st { counter = first.0; known = with_entry (Dot i) st.counter st.known; locations = st.locations ++ record { statement = i; address = first.0 } ∷ [] } ≡ next = cc in
+      let same : record st { counter = first.0; known = with_number (Dot i) st.counter st.known; locations = st.locations ++ record { statement = i; address = first.0 } ∷ [] } ≡ next = cc in
       subst (λ (u : State). Set i e st u) same (record { address = first.0; value = first.1; listed = refl; grown = grown_entry (Dot i) st.counter st.known })
 
   nothing_grows : (st next : State) → done st ≡ Ok next → Grows st next
   nothing_grows st next e = let same : st ≡ next = cc in subst (λ (u : State). Grows st u) same (grows_not st)
 
-  collected_grows : (q : Option Chunk) (st next : State) → collected order q st ≡ Ok next → Grows st next
-  unfolding collected
+  collected_grows : (q : Option Chunk) (st next : State) → chunk_collected order q st ≡ Ok next → Grows st next
+  unfolding chunk_collected
   collected_grows None st next e = nothing_grows st next e
   collected_grows (Some q) st next e = chunk_grows (order q) st next e
 
-  line_grows : (i : ℕ) (p : Place) (st next : State) → line setting order i p st ≡ Ok next → Grows st next
-  unfolding line
+  line_grows : (i : ℕ) (p : Place) (st next : State) → step scope order i p st ≡ Ok next → Grows st next
+  unfolding step
   line_grows i (SetLocation e) st next goes =
       let set = location_sets i e st next goes in
       record { known = set.grown; locations = (record { statement = i; address = set.address } ∷ [], set.listed) }
@@ -163,11 +163,11 @@ module _ (setting : Setting) (order : Chunk → List ChunkRow) where
   line_grows i (Close s rest) st next goes = rest_grows s rest st next goes
   line_grows i Idle st next goes = nothing_grows st next goes
 
-  set_line : (i : ℕ) (e : Expression) (st next : State) → line setting order i (SetLocation e) st ≡ Ok next → Set i e st next
-  unfolding line
+  set_line : (i : ℕ) (e : Expression) (st next : State) → step scope order i (SetLocation e) st ≡ Ok next → Set i e st next
+  unfolding step
   set_line i e st next goes = location_sets i e st next goes
 
-  module _ (places : List Place) (k : ℕ) (state : State) (s : Stands setting order places k state) where
+  module _ (places : List Place) (k : ℕ) (state : State) (s : Stands scope order places k state) where
     -- so many places on
     later : (n i : ℕ) → i + n ≤ k → Grows (s.before i) (s.before (i + n))
     later zero i low = let z : i + 0 ≡ i = omega arith in rw z (grows_not (s.before i))
@@ -200,14 +200,14 @@ stayed (Err f) s n e h = absurd (cc)
 pub locations_hold : (script : Bytes) (t : LinkerScript) (inputs : InputTable) (state : State) → IsLaid script t inputs state
     → (i : ℕ) (e : Expression) → slice_get (places_of t inputs) i ≡ Some (SetLocation e) → LaidLocationHolds script t inputs state i e
 locations_hold script t inputs state f i e there =
-    let setting = setting_of script t inputs in
+    let scope = scope_of script t inputs in
     let places = places_of t inputs in
     let low : i < length places = slice_get_within places i (SetLocation e) there in
-    let set = set_line setting f.order i e (f.stands.before i) (f.stands.before (i + 1)) (f.stands.each i (SetLocation e) low there) in
-    let on = to_end setting f.order places (length places) state f.stands (i + 1) (omega (arith, low)) in
+    let set = set_line scope f.order i e (f.stands.before i) (f.stands.before (i + 1)) (f.stands.each i (SetLocation e) low there) in
+    let on = to_end scope f.order places (length places) state f.stands (i + 1) (omega (arith, low)) in
     record {
       address = set.address;
-      value = stayed _ _ set.address set.value (full_values_stay setting i (f.stands.before (i + 1)).known state.known on.known 1024 [] e (point_of i));
+      value = stayed _ _ set.address set.value (full_values_stay scope i (f.stands.before (i + 1)).known state.known on.known 1024 [] e (point_of i));
       index = length (f.stands.before i).locations;
       listed = listed_at (f.stands.before i).locations (f.stands.before (i + 1)).locations on.locations.0 state.locations _ set.listed on.locations.1;
     }

@@ -7,8 +7,8 @@ use Rattle.std.proofs.lemmas.Bool.{eq-eqb}
 use Rattle.std.proofs.lemmas.Option.{slice_get_within}
 use Rattle.wild_script.specs.Tree.{Bytes}
 use Rattle.wild_script.specs.declared.tree.LinkerScript.{LinkerScript}
-use Rattle.wild_value_spec.specs.Known.{Known, Address, or_else, with_entry}
-use Rattle.wild_value_spec.specs.Setting.{Setting}
+use Rattle.wild_value_spec.specs.Known.{Known, Address, or_else, with_number}
+use Rattle.wild_value_spec.specs.Scope.{Scope}
 use Rattle.wild_value_spec.specs.Value.{sum_of}
 use Rattle.wild_plan_spec.specs.declared.chunk.Chunk.{Chunk}
 use Rattle.wild_plan_spec.specs.declared.chunk.ChunkRow.{ChunkRow}
@@ -18,13 +18,13 @@ use Rattle.wild_plan_spec.specs.declared.row.InputTable.{InputTable}
 use Rattle.wild_plan_spec.specs.Chunks.{same_chunk, is_of, kept_rows, rows_in}
 use Rattle.wild_plan_spec.specs.Fates.{section_names, all_fates, fates_of}
 use Rattle.wild_plan_spec.specs.Fit.{IsLaid}
-use Rattle.wild_plan_spec.specs.Line.{State, up, row_placed, rows_placed, chunk_placed, collected, ended_alone, ended_behind, closed, line}
+use Rattle.wild_plan_spec.specs.Steps.{State, up, row_placed, rows_placed, chunk_placed, chunk_collected, section_ended_alone, section_ended_after, section_closed, step}
 use Rattle.wild_plan_spec.specs.Names.{Name}
 use Rattle.wild_plan_spec.specs.Order.{IsOrdered, stands_before}
 use Rattle.wild_plan_spec.specs.Orphans.{places_of}
 use Rattle.wild_plan_spec.specs.Places.{Place, SetLocation, Within, Outside, Open, Collect, Rows, Close, Idle}
 use Rattle.wild_plan_spec.specs.Rules.{Rule, rules_of}
-use Rattle.wild_plan_spec.specs.Settings.{setting_of}
+use Rattle.wild_plan_spec.specs.Scopes.{scope_of}
 use Rattle.wild_plan_spec.specs.Walk.{Stands}
 use Rattle.wild_plan_spec.proofs.Ordered.{ties_itself}
 use Rattle.wild_plan_spec.proofs.RowOrder.{stands_weakly}
@@ -88,8 +88,8 @@ entry_by : (o : Option ℕ) (b : Bool) (n : ℕ) → b ≡ true → (a : ℕ) ×
 entry_by (Some a) b n e = (a, refl)
 entry_by None b n e = (n, rw e refl)
 
-entry_here : (r n : ℕ) (known : Known) → HasAddress (with_entry (Address r) n known) r
-unfolding with_entry
+entry_here : (r n : ℕ) (known : Known) → HasAddress (with_number (Address r) n known) r
+unfolding with_number
 entry_here r n known = entry_by (known (Address r)) (r == r) n (eq-eqb r r refl)
 
 row_addressed : (c : ChunkRow) (st next : State) → row_placed c st ≡ Ok next → HasAddress next.known c.row
@@ -98,7 +98,7 @@ row_addressed c st next e =
     let first = bind_ok (up c.size c.alignment.0) _ next e in
     let second = bind_ok (sum_of st.cursor first.0) _ next first.2 in
     let both = second.2 in
-    let same : record st { cursor = second.0; known = with_entry (Address c.row) st.cursor st.known } ≡ next = cc in
+    let same : record st { cursor = second.0; known = with_number (Address c.row) st.cursor st.known } ≡ next = cc in
     subst (λ (s : State). HasAddress s.known c.row) same (entry_here c.row st.cursor st.known)
 
 module _ (r : ℕ) (q : Chunk) where
@@ -117,25 +117,25 @@ module _ (r : ℕ) (q : Chunk) where
       let first = bind_ok (up st.cursor _) (λ n. rows_placed cs (record st { cursor = n })) next e in
       rows_addressed cs (record st { cursor = first.0 }) next h first.2
 
-  module _ (setting : Setting) (order : Chunk → List ChunkRow) (has : Has (IsRow r q) (order q)) where
+  module _ (scope : Scope) (order : Chunk → List ChunkRow) (has : Has (IsRow r q) (order q)) where
     ordered_addressed : (own : Chunk) (st next : State) → own ≡ q → chunk_placed (order own) st ≡ Ok next → HasAddress next.known r
     ordered_addressed own st next same e = chunk_addressed (order own) st next (subst (λ (c : Chunk). Has (IsRow r q) (order c)) (sym same) has) e
 
-    collected_addressed : (o : Option Chunk) (st next : State) → o ≡ Some q → collected order o st ≡ Ok next → HasAddress next.known r
-    unfolding collected
+    collected_addressed : (o : Option Chunk) (st next : State) → o ≡ Some q → chunk_collected order o st ≡ Ok next → HasAddress next.known r
+    unfolding chunk_collected
     collected_addressed None st next lays e = absurd (cc)
     collected_addressed (Some own) st next lays e = ordered_addressed own st next (cc) e
 
-    closed_addressed : (s : ℕ) (rest : Option Chunk) (st next : State) → rest ≡ Some q → closed setting order s rest st ≡ Ok next → HasAddress next.known r
-    unfolding closed ended_behind
+    closed_addressed : (s : ℕ) (rest : Option Chunk) (st next : State) → rest ≡ Some q → section_closed scope order s rest st ≡ Ok next → HasAddress next.known r
+    unfolding section_closed section_ended_after
     closed_addressed s None st next lays e = absurd (cc)
     closed_addressed s (Some own) st next lays e =
-        let first = bind_ok (chunk_placed (order own) st) (ended_alone setting s) next e in
-        address_stays first.0 next r (alone_grows setting order s first.0 next first.2) (ordered_addressed own st first.0 (cc) first.1)
+        let first = bind_ok (chunk_placed (order own) st) (section_ended_alone scope s) next e in
+        address_stays first.0 next r (alone_grows scope order s first.0 next first.2) (ordered_addressed own st first.0 (cc) first.1)
 
     -- the place that lays out the chunk of the row
-    line_addressed : (i : ℕ) (p : Place) (st next : State) → Lays q p → line setting order i p st ≡ Ok next → HasAddress next.known r
-    unfolding line
+    line_addressed : (i : ℕ) (p : Place) (st next : State) → Lays q p → step scope order i p st ≡ Ok next → HasAddress next.known r
+    unfolding step
     line_addressed i (SetLocation e) st next lays goes = absurd lays
     line_addressed i (Within task) st next lays goes = absurd lays
     line_addressed i (Outside task) st next lays goes = absurd lays
@@ -145,13 +145,13 @@ module _ (r : ℕ) (q : Chunk) where
     line_addressed i (Close s rest) st next lays goes = closed_addressed s rest st next lays goes
     line_addressed i Idle st next lays goes = absurd lays
 
-    stand_addressed : (places : List Place) (state : State) → Stands setting order places (length places) state → Has (Lays q) places → HasAddress state.known r
+    stand_addressed : (places : List Place) (state : State) → Stands scope order places (length places) state → Has (Lays q) places → HasAddress state.known r
     stand_addressed places state s h =
         let found = has_there (Lays q) places h in
         let low = slice_get_within places found.0 found.1 found.2 in
         let goes = s.each found.0 found.1 low found.2 in
         address_stays (s.before (found.0 + 1)) state r
-        (to_end setting order places (length places) state s (found.0 + 1) (omega (arith, low)))
+        (to_end scope order places (length places) state s (found.0 + 1) (omega (arith, low)))
         (line_addressed found.0 found.1 (s.before found.0) (s.before (found.0 + 1)) found.3 goes)
 
 pub kept_rows_have_addresses : (script : Bytes) (t : LinkerScript) (inputs : InputTable) (state : State) → IsLaid script t inputs state
@@ -160,6 +160,6 @@ kept_rows_have_addresses script t inputs state f r k there =
     let within = slice_get_within (fates_of t inputs) r (Some k) there in
     let lengths = fates_length (rules_of t) (section_names t inputs) inputs.rows in
     let row = row_in inputs.rows (fates_of t inputs) r k (omega (arith, within, lengths)) there in
-    stand_addressed r k.chunk (setting_of script t inputs) f.order
+    stand_addressed r k.chunk (scope_of script t inputs) f.order
     (ordered_has (IsRow r k.chunk) (rows_in k.chunk inputs.rows (fates_of t inputs)) (f.order k.chunk) (f.ordered k.chunk) row)
     (places_of t inputs) state f.stands (kept_lays t inputs r k there)

@@ -4,8 +4,8 @@ use Rattle.std.specs.Prelude.{slice_get}
 use Rattle.std.proofs.lemmas.Bool.{cases_lt, lt-ltb, eq-eqb, ne_eqb, eqb-true}
 use Rattle.std.proofs.lemmas.List.Elements.{All-head, All-tail}
 use Rattle.std.specs.List.{All}
-use Rattle.wild_value_spec.specs.Known.{Known, IsPart, Entry, Start, Load, End, Address, nothing, number_at, or_else, same_entry, with_entry}
-use Rattle.wild_value_spec.specs.Setting.{Setting}
+use Rattle.wild_value_spec.specs.Known.{Known, IsPart, Asked, Start, Load, End, Address, nothing, number_at, or_else, same_asked, with_number}
+use Rattle.wild_value_spec.specs.Scope.{Scope}
 use Rattle.wild_value_spec.specs.Value.{sum_of}
 use Rattle.wild_plan_spec.specs.declared.chunk.Chunk.{Chunk}
 use Rattle.wild_plan_spec.specs.declared.chunk.ChunkRow.{ChunkRow}
@@ -13,11 +13,11 @@ use Rattle.wild_plan_spec.specs.declared.chunk.Kept.{Kept}
 use Rattle.wild_plan_spec.specs.declared.placed.PlacedLocation.{PlacedLocation}
 use Rattle.wild_plan_spec.specs.declared.row.InputRow.{InputRow}
 use Rattle.wild_plan_spec.specs.Chunks.{largest}
-use Rattle.wild_plan_spec.specs.Line.{State, up, row_placed, rows_placed, chunk_placed, opened, shares, lower, sharing, ended, closed_by, ended_alone}
+use Rattle.wild_plan_spec.specs.Steps.{State, up, row_placed, rows_placed, chunk_placed, section_opened, shares, lower, sharing, section_ended, section_closed_by, section_ended_alone}
 use Rattle.wild_plan_laws.specs.Holding.{RowHolds, SectionHolds, LaidSectionStands, Spans}
 use Rattle.wild_plan_laws.proofs.Chunked.{IsRow, IsRowOf}
 use Rattle.wild_plan_laws.proofs.Growing.{bind_ok, grown_entry}
-use Rattle.wild_plan_laws.proofs.Lines.{up_multiple, up_reaches, up_fits, sum_is, sum_fits, entry_by}
+use Rattle.wild_plan_laws.proofs.Steps.{up_multiple, up_reaches, up_fits, sum_is, sum_fits, entry_by}
 use Rattle.wild_plan_laws.proofs.Walked.{Alike, other_entry}
 
 -- ---- what is known
@@ -31,19 +31,19 @@ not_both o n e f = let both : None ≡ Some n = sym e ∙ f in cc
 first_entry : (b : Bool) (n : ℕ) (o : Option ℕ) → o ≡ None → b ≡ true → or_else o (cond b (Some n) None) ≡ Some n
 first_entry b n o e f = rw (e, f) refl
 
-start_here : (s n : ℕ) (known : Known) → known (Start s) ≡ None → with_entry (Start s) n known (Start s) ≡ Some n
-unfolding with_entry
+start_here : (s n : ℕ) (known : Known) → known (Start s) ≡ None → with_number (Start s) n known (Start s) ≡ Some n
+unfolding with_number
 start_here s n known e = first_entry (s == s) n (known (Start s)) e (eq-eqb s s refl)
 
-load_here : (s n : ℕ) (known : Known) → known (Load s) ≡ None → with_entry (Load s) n known (Load s) ≡ Some n
-unfolding with_entry
+load_here : (s n : ℕ) (known : Known) → known (Load s) ≡ None → with_number (Load s) n known (Load s) ≡ Some n
+unfolding with_number
 load_here s n known e = first_entry (s == s) n (known (Load s)) e (eq-eqb s s refl)
 
-end_here : (s n : ℕ) (known : Known) → known (End s) ≡ None → with_entry (End s) n known (End s) ≡ Some n
-unfolding with_entry
+end_here : (s n : ℕ) (known : Known) → known (End s) ≡ None → with_number (End s) n known (End s) ≡ Some n
+unfolding with_number
 end_here s n known e = first_entry (s == s) n (known (End s)) e (eq-eqb s s refl)
 
-pub known_number : (known : Known) (x : Entry) (n : ℕ) → known x ≡ Some n → number_at known x ≡ n
+pub known_number : (known : Known) (x : Asked) (n : ℕ) → known x ≡ Some n → number_at known x ≡ n
 known_number known x n e = rw e refl
 
 -- the addresses of rows are those known before
@@ -123,7 +123,7 @@ shares_none known s start end x e holds low high =
     (lt-ltb (number_at known (Start s)) end (omega (arith, first, from, high)))
     e
 
-module _ (setting : Setting) (rows : List InputRow) (fates : List (Option Kept)) where
+module _ (scope : Scope) (rows : List InputRow) (fates : List (Option Kept)) where
   -- ---- rows
 
   -- row r is kept in section s
@@ -178,13 +178,13 @@ module _ (setting : Setting) (rows : List InputRow) (fates : List (Option Kept))
   SectionsApart n known = (s u x : ℕ) → s < n → u < n → SectionHolds known s x → SectionHolds known u x → s ≡ u
 
   abbrev AllStand : ℕ → Known → Type 0
-  AllStand n known = (s : ℕ) → s < n → LaidSectionStands known s (setting.alignment s)
+  AllStand n known = (s : ℕ) → s < n → LaidSectionStands known s (scope.alignment s)
 
   sections_apart_still : (n : ℕ) (known more : Known) → IsPart known more → AllStand n known → SectionsApart n known → SectionsApart n more
   sections_apart_still n known more part stand h s u x low high one other =
       h s u x low high
-      (held_before known more s (setting.alignment s) x part (stand s low) one)
-      (held_before known more u (setting.alignment u) x part (stand u high) other)
+      (held_before known more s (scope.alignment s) x part (stand s low) one)
+      (held_before known more u (scope.alignment u) x part (stand u high) other)
 
   -- ---- what holds between sections, and in them
 
@@ -204,7 +204,7 @@ module _ (setting : Setting) (rows : List InputRow) (fates : List (Option Kept))
     pub starts : st.known (Start s) ≡ Some start
     pub loaded : st.known (Load s) ≡ Some start
     pub ends : st.known (End s) ≡ None
-    pub aligned : start % 2 ^ setting.alignment s ≡ 0
+    pub aligned : start % 2 ^ scope.alignment s ≡ 0
     pub low : start ≤ st.cursor
     pub high : st.cursor < 2 ^ 64
     pub lie : (r a : ℕ) → st.known (Address r) ≡ Some a → LiesBelow s st.known r a ⊎ Lies r a s start st.cursor
@@ -224,7 +224,7 @@ module _ (setting : Setting) (rows : List InputRow) (fates : List (Option Kept))
   behind_alike n known more alike h =
       let part = alike.part in
       record {
-        stand = λ s low. stands_grow known more s (setting.alignment s) part (h.stand s low);
+        stand = λ s low. stands_grow known more s (scope.alignment s) part (h.stand s low);
         fresh = λ s low. let f = h.fresh s low in record {
           starts = alike.same (Start s) (λ i. refl) ∙ f.starts;
           loads = alike.same (Load s) (λ i. refl) ∙ f.loads;
@@ -239,14 +239,14 @@ module _ (setting : Setting) (rows : List InputRow) (fates : List (Option Kept))
 
   module _ (s n : ℕ) (known : Known) (h : Behind s known) where
     abbrev started : Known
-    started = with_entry (Load s) n (with_entry (Start s) n known)
+    started = with_number (Load s) n (with_number (Start s) n known)
 
     started_part : IsPart known started
-    started_part x m e = grown_entry (Load s) n (with_entry (Start s) n known) x m (grown_entry (Start s) n known x m e)
+    started_part x m e = grown_entry (Load s) n (with_number (Start s) n known) x m (grown_entry (Start s) n known x m e)
 
     -- that is all that is new
-    started_same : (y : Entry) → same_entry (Start s) y ≡ false → same_entry (Load s) y ≡ false → started y ≡ known y
-    started_same y e f = other_entry (Load s) n (with_entry (Start s) n known) y f ∙ other_entry (Start s) n known y e
+    started_same : (y : Asked) → same_asked (Start s) y ≡ false → same_asked (Load s) y ≡ false → started y ≡ known y
+    started_same y e f = other_entry (Load s) n (with_number (Start s) n known) y f ∙ other_entry (Start s) n known y e
 
     started_fresh : (u : ℕ) → s < u → IsFresh started u
     started_fresh u low =
@@ -258,15 +258,15 @@ module _ (setting : Setting) (rows : List InputRow) (fates : List (Option Kept))
           ends = started_same (End u) refl refl ∙ f.ends;
         }
 
-    started_amid : (counter : ℕ) (locations : List PlacedLocation) → n % 2 ^ setting.alignment s ≡ 0 → n < 2 ^ 64 → Amid s (record { counter = counter; cursor = n; known = started; locations = locations })
+    started_amid : (counter : ℕ) (locations : List PlacedLocation) → n % 2 ^ scope.alignment s ≡ 0 → n < 2 ^ 64 → Amid s (record { counter = counter; cursor = n; known = started; locations = locations })
     started_amid counter locations aligned high =
         let own = h.fresh s (omega arith) in
         record {
-          stand = λ u low. stands_grow known started u (setting.alignment u) started_part (h.stand u low);
+          stand = λ u low. stands_grow known started u (scope.alignment u) started_part (h.stand u low);
           fresh = started_fresh;
           start = n;
-          starts = other_entry (Load s) n (with_entry (Start s) n known) (Start s) refl ∙ start_here s n known own.starts;
-          loaded = load_here s n (with_entry (Start s) n known) (other_entry (Start s) n known (Load s) refl ∙ own.loads);
+          starts = other_entry (Load s) n (with_number (Start s) n known) (Start s) refl ∙ start_here s n known own.starts;
+          loaded = load_here s n (with_number (Start s) n known) (other_entry (Start s) n known (Load s) refl ∙ own.loads);
           ends = started_same (End s) refl refl ∙ own.ends;
           aligned = aligned;
           low = omega arith;
@@ -276,14 +276,14 @@ module _ (setting : Setting) (rows : List InputRow) (fates : List (Option Kept))
           rows_apart = rows_apart_still known started (λ r a e. sym (started_same (Address r) refl refl) ∙ e) h.rows_apart;
         }
 
-  pub opens_amid : (s : ℕ) (st next : State) → Behind s st.known → opened s (setting.alignment s) st ≡ Ok next → Amid s next
-  unfolding opened
+  pub opens_amid : (s : ℕ) (st next : State) → Behind s st.known → section_opened s (scope.alignment s) st ≡ Ok next → Amid s next
+  unfolding section_opened
   opens_amid s st next h e =
-      let first = bind_ok (up st.counter (setting.alignment s)) _ next e in
+      let first = bind_ok (up st.counter (scope.alignment s)) _ next e in
       let both = first.2 in
       let same : record st { cursor = first.0; known = started s first.0 st.known h } ≡ next = cc in
       subst (Amid s) same (started_amid s first.0 st.known h st.counter st.locations
-      (up_multiple st.counter (setting.alignment s) first.0 first.1) (up_fits st.counter (setting.alignment s) first.0 first.1))
+      (up_multiple st.counter (scope.alignment s) first.0 first.1) (up_fits st.counter (scope.alignment s) first.0 first.1))
 
   -- ---- the cursor goes on
 
@@ -309,14 +309,14 @@ module _ (setting : Setting) (rows : List InputRow) (fates : List (Option Kept))
 
   module _ (s : ℕ) (st : State) (h : Amid s st) (c : ChunkRow) (of : IsRow rows fates c) (own : c.chunk.«section» ≡ s) where
     abbrev placed : Known
-    placed = with_entry (Address c.row) st.cursor st.known
+    placed = with_number (Address c.row) st.cursor st.known
 
     goes_here : GoesTo c.row s
     goes_here = record { kept = of.kept; fate = of.fate; own = ap (λ (q : Chunk). q.«section») (sym of.chunk) ∙ own }
 
     -- an address is known before, or it is that of the new row
     known_or_new : (r a : ℕ) → placed (Address r) ≡ Some a → (st.known (Address r) ≡ Some a) ⊎ ((c.row ≡ r) × (st.cursor ≡ a))
-    unfolding with_entry
+    unfolding with_number
     known_or_new r a e = ⊎_elim (λ old. inl old) (λ new. inr (eqb-true c.row r new.0, new.1)) (entry_by (st.known (Address r)) (c.row == r) st.cursor a e)
 
     new_lies : (n r a : ℕ) → st.cursor + c.size ≤ n → c.row ≡ r → st.cursor ≡ a → Lies r a s h.start n
@@ -377,7 +377,7 @@ module _ (setting : Setting) (rows : List InputRow) (fates : List (Option Kept))
         let part = grown_entry (Address c.row) st.cursor st.known in
         let low = h.low in
         record {
-          stand = λ u below. stands_grow st.known placed u (setting.alignment u) part (h.stand u below);
+          stand = λ u below. stands_grow st.known placed u (scope.alignment u) part (h.stand u below);
           fresh = placed_fresh;
           start = h.start;
           starts = part (Start s) h.start h.starts;
@@ -428,7 +428,7 @@ module _ (setting : Setting) (rows : List InputRow) (fates : List (Option Kept))
 
   module _ (s : ℕ) (st : State) (h : Amid s st) (alone : (u : ℕ) → u < s → shares st.known h.start st.cursor u ≡ false) where
     abbrev finished : Known
-    finished = with_entry (End s) st.cursor st.known
+    finished = with_number (End s) st.cursor st.known
 
     finished_part : IsPart st.known finished
     finished_part = grown_entry (End s) st.cursor st.known
@@ -436,7 +436,7 @@ module _ (setting : Setting) (rows : List InputRow) (fates : List (Option Kept))
     own_spans : Spans finished s h.start st.cursor
     own_spans = record { starts = finished_part (Start s) h.start h.starts; ends = end_here s st.cursor st.known h.ends }
 
-    own_stands : LaidSectionStands finished s (setting.alignment s)
+    own_stands : LaidSectionStands finished s (scope.alignment s)
     own_stands = record {
       start = h.start;
       end = st.cursor;
@@ -450,8 +450,8 @@ module _ (setting : Setting) (rows : List InputRow) (fates : List (Option Kept))
     -- a section with a number up to s is an earlier one, or it is s
     finished_stand : AllStand (s + 1) finished
     finished_stand u low = ⊎_elim
-        (λ lt. stands_grow st.known finished u (setting.alignment u) finished_part (h.stand u lt))
-        (λ le. let same : s ≡ u = omega (arith, low, le) in subst (λ (m : ℕ). LaidSectionStands finished m (setting.alignment m)) same own_stands)
+        (λ lt. stands_grow st.known finished u (scope.alignment u) finished_part (h.stand u lt))
+        (λ le. let same : s ≡ u = omega (arith, low, le) in subst (λ (m : ℕ). LaidSectionStands finished m (scope.alignment m)) same own_stands)
         (cases_lt u s)
 
     finished_fresh : (u : ℕ) → s + 1 ≤ u → IsFresh finished u
@@ -471,7 +471,7 @@ module _ (setting : Setting) (rows : List InputRow) (fates : List (Option Kept))
         let from = other.from in
         let to = other.to in
         shares_none st.known u h.start st.cursor x (alone u low)
-        (held_before st.known finished u (setting.alignment u) x finished_part (h.stand u low) one)
+        (held_before st.known finished u (scope.alignment u) x finished_part (h.stand u low) one)
         (omega (arith, start, from)) (omega (arith, end, to))
 
     finished_apart : SectionsApart (s + 1) finished
@@ -501,16 +501,16 @@ module _ (setting : Setting) (rows : List InputRow) (fates : List (Option Kept))
       rows_apart = rows_apart_still st.known finished same_rows h.rows_apart;
     }
 
-  closed_behind : (s : ℕ) (o : Option ℕ) (st next : State) → (h : Amid s st) → sharing st.known h.start st.cursor s ≡ o → closed_by setting s o st ≡ Ok next → Behind (s + 1) next.known
-  unfolding ended
+  closed_behind : (s : ℕ) (o : Option ℕ) (st next : State) → (h : Amid s st) → sharing st.known h.start st.cursor s ≡ o → section_closed_by scope s o st ≡ Ok next → Behind (s + 1) next.known
+  unfolding section_ended
   closed_behind s None st next h none e =
       let alone = λ (u : ℕ) (low : u < s). none_shares st.known h.start st.cursor s u none low in
       let same : record st { counter = st.cursor; known = finished s st h alone } ≡ next = cc in
       subst (λ (u : State). Behind (s + 1) u.known) same (finished_behind s st h alone)
   closed_behind s (Some other) st next h some e = absurd (cc)
 
-  pub ends_behind : (s : ℕ) (st next : State) → Amid s st → ended_alone setting s st ≡ Ok next → Behind (s + 1) next.known
-  unfolding ended_alone
+  pub ends_behind : (s : ℕ) (st next : State) → Amid s st → section_ended_alone scope s st ≡ Ok next → Behind (s + 1) next.known
+  unfolding section_ended_alone
   ends_behind s st next h e =
       let start = known_number st.known (Start s) h.start h.starts in
       closed_behind s _ st next h (ap (λ (n : ℕ). sharing st.known n st.cursor s) (sym start)) e

@@ -1,5 +1,5 @@
 pub mod Growing
-pub mod Lines
+pub mod Steps
 pub mod Having
 pub mod Found
 pub mod Walked

@@ -21,7 +21,7 @@ use Rattle.wild_plan_spec.specs.Definitions.{row_chunk, symbol_chunk}
 use Rattle.wild_plan_spec.specs.Fates.{fates_of, section_names}
 use Rattle.wild_plan_spec.specs.Fit.{IsLaid, IsPlan}
 use Rattle.wild_plan_spec.specs.Layout.{Layout, placed_section, placed_sections, placed_input, placed_inputs, table_symbol, table_symbols}
-use Rattle.wild_plan_spec.specs.Line.{State}
+use Rattle.wild_plan_spec.specs.Steps.{State}
 use Rattle.wild_plan_spec.specs.Names.{Name}
 use Rattle.wild_plan_spec.specs.Orphans.{places_of}
 use Rattle.wild_plan_spec.specs.Places.{SetLocation}

@@ -12,7 +12,7 @@ use Rattle.wild_plan_spec.specs.declared.row.InputTable.{InputTable}
 use Rattle.wild_plan_spec.specs.declared.row.SymbolRow.{SymbolRow}
 use Rattle.wild_plan_spec.specs.Checks.{Check, row_checks, holds_offset, symbol_checks, checks, failing}
 use Rattle.wild_plan_spec.specs.Fit.{IsLaid}
-use Rattle.wild_plan_spec.specs.Line.{State}
+use Rattle.wild_plan_spec.specs.Steps.{State}
 use Rattle.wild_plan_laws.proofs.Standing.{rows_stand_in_place}
 
 -- ---- checks

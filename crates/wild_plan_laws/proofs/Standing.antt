@@ -10,8 +10,8 @@ use Rattle.std.proofs.lemmas.Bool.{cases_lt, lt-ltb, eqb-true}
 use Rattle.std.proofs.lemmas.List.Elements.{All-head, All-tail}
 use Rattle.wild_script.specs.Tree.{Bytes}
 use Rattle.wild_script.specs.declared.tree.LinkerScript.{LinkerScript}
-use Rattle.wild_value_spec.specs.Known.{Known, Start, Load, End, Address, with_entry}
-use Rattle.wild_value_spec.specs.Setting.{Setting}
+use Rattle.wild_value_spec.specs.Known.{Known, Start, Load, End, Address, with_number}
+use Rattle.wild_value_spec.specs.Scope.{Scope}
 use Rattle.wild_value_spec.specs.Value.{sum_of}
 use Rattle.wild_plan_spec.specs.declared.chunk.ChunkRow.{ChunkRow}
 use Rattle.wild_plan_spec.specs.declared.chunk.Kept.{Kept}
@@ -20,15 +20,15 @@ use Rattle.wild_plan_spec.specs.declared.row.InputTable.{InputTable}
 use Rattle.wild_plan_spec.specs.Chunks.{alignment_of, largest}
 use Rattle.wild_plan_spec.specs.Fates.{fates_of}
 use Rattle.wild_plan_spec.specs.Fit.{IsLaid}
-use Rattle.wild_plan_spec.specs.Line.{State, up, row_placed, rows_placed, chunk_placed, opened, ended, closed_by, ended_alone}
+use Rattle.wild_plan_spec.specs.Steps.{State, up, row_placed, rows_placed, chunk_placed, section_opened, section_ended, section_closed_by, section_ended_alone}
 use Rattle.wild_plan_spec.specs.Order.{stands_before}
-use Rattle.wild_plan_spec.specs.Settings.{setting_of}
+use Rattle.wild_plan_spec.specs.Scopes.{scope_of}
 use Rattle.wild_plan_spec.proofs.Ordered.{none_less, sorted_tail}
 use Rattle.wild_plan_spec.proofs.RowOrder.{stands_weakly}
 use Rattle.wild_plan_laws.specs.Holding.{StandInPlace}
 use Rattle.wild_plan_laws.proofs.Chunked.{IsRow, chunk_rows}
 use Rattle.wild_plan_laws.proofs.Growing.{bind_ok}
-use Rattle.wild_plan_laws.proofs.Lines.{IsMultiple, lower_power, sum_multiple, up_multiple, up_reaches, sum_is, sum_fits, entry_by}
+use Rattle.wild_plan_laws.proofs.Steps.{IsMultiple, lower_power, sum_multiple, up_multiple, up_reaches, sum_is, sum_fits, entry_by}
 use Rattle.wild_plan_laws.proofs.Walked.{other_entry, walked}
 
 -- ---- the order of rows
@@ -75,8 +75,8 @@ module _ (rows : List InputRow) (fates : List (Option Kept)) where
   stays : (known next : Known) → ((r : ℕ) → next (Address r) ≡ known (Address r)) → InPlace known → InPlace next
   stays known next same h r row a there at = h r row a there (sym (same r) ∙ at)
 
-  one_more : (c : ChunkRow) (cursor size : ℕ) (known : Known) → IsRow rows fates c → IsMultiple cursor c.alignment.0 → c.size ≤ size → cursor + size < 2 ^ 64 → InPlace known → InPlace (with_entry (Address c.row) cursor known)
-  unfolding with_entry
+  one_more : (c : ChunkRow) (cursor size : ℕ) (known : Known) → IsRow rows fates c → IsMultiple cursor c.alignment.0 → c.size ≤ size → cursor + size < 2 ^ 64 → InPlace known → InPlace (with_number (Address c.row) cursor known)
+  unfolding with_number
   one_more c cursor size known of fits big ends h r row a there at = ⊎_elim
       (λ old. h r row a there old)
       (λ new. let both : Some of.row ≡ Some row = sym of.there ∙ ap (slice_get rows) (eqb-true c.row r new.0) ∙ there in
@@ -101,7 +101,7 @@ module _ (rows : List InputRow) (fates : List (Option Kept)) where
       let first = bind_ok (up c.size c.alignment.0) _ next e in
       let second = bind_ok (sum_of st.cursor first.0) _ next first.2 in
       let both = second.2 in
-      let same : record st { cursor = second.0; known = with_entry (Address c.row) st.cursor st.known } ≡ next = cc in
+      let same : record st { cursor = second.0; known = with_number (Address c.row) st.cursor st.known } ≡ next = cc in
       let cursor : IsMultiple second.0 c.alignment.0 = ap (λ (n : ℕ). n % 2 ^ c.alignment.0) (sum_is st.cursor first.0 second.0 second.1) ∙ sum_multiple st.cursor first.0 c.alignment.0 at (up_multiple c.size c.alignment.0 first.0 first.1) in
       subst (λ (s : State). Stepped c s) same (record { known = one_more c st.cursor first.0 st.known of at (up_reaches c.size c.alignment.0 first.0 first.1) (sum_fits st.cursor first.0 second.0 second.1) h; cursor = cursor })
 
@@ -124,36 +124,36 @@ module _ (rows : List InputRow) (fates : List (Option Kept)) where
 
   -- ---- sections
 
-  open_aligned : (s alignment : ℕ) (st next : State) → InPlace st.known → opened s alignment st ≡ Ok next → InPlace next.known
-  unfolding opened
+  open_aligned : (s alignment : ℕ) (st next : State) → InPlace st.known → section_opened s alignment st ≡ Ok next → InPlace next.known
+  unfolding section_opened
   open_aligned s alignment st next h e =
       let first = bind_ok (up st.counter alignment) _ next e in
       let both = first.2 in
-      let same : record st { cursor = first.0; known = with_entry (Load s) first.0 (with_entry (Start s) first.0 st.known) } ≡ next = cc in
+      let same : record st { cursor = first.0; known = with_number (Load s) first.0 (with_number (Start s) first.0 st.known) } ≡ next = cc in
       subst (λ (u : State). InPlace u.known) same
-      (stays st.known (with_entry (Load s) first.0 (with_entry (Start s) first.0 st.known))
-      (λ r. other_entry (Load s) first.0 (with_entry (Start s) first.0 st.known) (Address r) refl ∙ other_entry (Start s) first.0 st.known (Address r) refl) h)
+      (stays st.known (with_number (Load s) first.0 (with_number (Start s) first.0 st.known))
+      (λ r. other_entry (Load s) first.0 (with_number (Start s) first.0 st.known) (Address r) refl ∙ other_entry (Start s) first.0 st.known (Address r) refl) h)
 
-  closed_aligned : (setting : Setting) (s : ℕ) (o : Option ℕ) (st next : State) → InPlace st.known → closed_by setting s o st ≡ Ok next → InPlace next.known
-  unfolding ended
-  closed_aligned setting s None st next h e =
-      let same : record st { counter = st.cursor; known = with_entry (End s) st.cursor st.known } ≡ next = cc in
-      subst (λ (u : State). InPlace u.known) same (stays st.known (with_entry (End s) st.cursor st.known) (λ r. other_entry (End s) st.cursor st.known (Address r) refl) h)
-  closed_aligned setting s (Some other) st next h e = absurd (cc)
+  closed_aligned : (scope : Scope) (s : ℕ) (o : Option ℕ) (st next : State) → InPlace st.known → section_closed_by scope s o st ≡ Ok next → InPlace next.known
+  unfolding section_ended
+  closed_aligned scope s None st next h e =
+      let same : record st { counter = st.cursor; known = with_number (End s) st.cursor st.known } ≡ next = cc in
+      subst (λ (u : State). InPlace u.known) same (stays st.known (with_number (End s) st.cursor st.known) (λ r. other_entry (End s) st.cursor st.known (Address r) refl) h)
+  closed_aligned scope s (Some other) st next h e = absurd (cc)
 
-  alone_aligned : (setting : Setting) (s : ℕ) (st next : State) → InPlace st.known → ended_alone setting s st ≡ Ok next → InPlace next.known
-  unfolding ended_alone
-  alone_aligned setting s st next h e = closed_aligned setting s _ st next h e
+  alone_aligned : (scope : Scope) (s : ℕ) (st next : State) → InPlace st.known → section_ended_alone scope s st ≡ Ok next → InPlace next.known
+  unfolding section_ended_alone
+  alone_aligned scope s st next h e = closed_aligned scope s _ st next h e
 
 pub rows_stand_in_place : (script : Bytes) (t : LinkerScript) (inputs : InputTable) (state : State) → IsLaid script t inputs state → StandInPlace inputs.rows state.known
 rows_stand_in_place script t inputs state f =
-    let setting = setting_of script t inputs in
+    let scope = scope_of script t inputs in
     let fates = fates_of t inputs in
-    walked setting f.order (λ n known. StandInPlace inputs.rows known) (λ s st. StandInPlace inputs.rows st.known)
+    walked scope f.order (λ n known. StandInPlace inputs.rows known) (λ s st. StandInPlace inputs.rows st.known)
     (λ n known more alike h. stays inputs.rows fates known more (λ r. alike.same (Address r) (λ i. refl)) h)
-    (λ s st next h e. open_aligned inputs.rows fates s (setting.alignment s) st next h e)
+    (λ s st next h e. open_aligned inputs.rows fates s (scope.alignment s) st next h e)
     (λ q st next h e. chunk_aligned inputs.rows fates (f.order q) st next
     (λ i d low. (chunk_rows inputs.rows fates q (f.order q) (f.ordered q) i d low).0)
     (sorted_falls (f.order q) (f.ordered q).sorted) h e)
-    (λ s st next h e. alone_aligned inputs.rows fates setting s st next h e)
+    (λ s st next h e. alone_aligned inputs.rows fates scope s st next h e)
     t inputs state f.stands (λ r row a there at. absurd (cc))

@@ -10,15 +10,15 @@ use Rattle.wild_script.specs.declared.tree.LinkerScript.{LinkerScript}
 use Rattle.wild_script.specs.declared.tree.Matcher.{Matcher}
 use Rattle.wild_script.specs.declared.tree.Section.{Section}
 use Rattle.wild_script.specs.declared.tree.SectionCommand.TheVariants as inner
-use Rattle.wild_value_spec.specs.Known.{Known, IsPart, Entry, Dot, nothing, or_else, same_entry, with_entry}
-use Rattle.wild_value_spec.specs.Setting.{Setting}
+use Rattle.wild_value_spec.specs.Known.{Known, IsPart, Asked, Dot, nothing, or_else, same_asked, with_number}
+use Rattle.wild_value_spec.specs.Scope.{Scope}
 use Rattle.wild_value_spec.specs.Value.{full}
 use Rattle.wild_plan_spec.specs.declared.chunk.Chunk.{Chunk}
 use Rattle.wild_plan_spec.specs.declared.chunk.ChunkRow.{ChunkRow}
 use Rattle.wild_plan_spec.specs.declared.row.InputTable.{InputTable}
 use Rattle.wild_plan_spec.specs.Definitions.{point_of}
 use Rattle.wild_plan_spec.specs.Fates.{names_of, orphans_of, section_names}
-use Rattle.wild_plan_spec.specs.Line.{State, first_state, chunk_placed, collected, opened, ended_alone, ended_behind, closed, passed, location_set, line}
+use Rattle.wild_plan_spec.specs.Steps.{State, first_state, chunk_placed, chunk_collected, section_opened, section_ended_alone, section_ended_after, section_closed, counter_noted, location_set, step}
 use Rattle.wild_plan_spec.specs.Names.{Name}
 use Rattle.wild_plan_spec.specs.Orphans.{orphan_places, places_of}
 use Rattle.wild_plan_spec.specs.Places.{Place, SetLocation, Within, Outside, Open, Collect, Rows, Close, Idle, Task, contents_places, rest_chunk, section_places, discarding_places, discard_places, statement_places, next_section, all_places, script_places}
@@ -32,28 +32,28 @@ use Rattle.wild_plan_laws.proofs.Found.{names_length}
 -- nothing else is known in addition than the location counter at places
 pub record Alike (known more : Known) : Type 0 where
   pub part : IsPart known more
-  pub same : (y : Entry) → ((i : ℕ) → same_entry (Dot i) y ≡ false) → more y ≡ known y
+  pub same : (y : Asked) → ((i : ℕ) → same_asked (Dot i) y ≡ false) → more y ≡ known y
 
 or_none : (o : Option ℕ) → or_else o None ≡ o
 or_none (Some n) = refl
 or_none None = refl
 
-pub other_entry : (x : Entry) (n : ℕ) (known : Known) (y : Entry) → same_entry x y ≡ false → with_entry x n known y ≡ known y
-unfolding with_entry
+pub other_entry : (x : Asked) (n : ℕ) (known : Known) (y : Asked) → same_asked x y ≡ false → with_number x n known y ≡ known y
+unfolding with_number
 other_entry x n known y e = rw e (or_none (known y))
 
-dot_alike : (i n : ℕ) (known : Known) → Alike known (with_entry (Dot i) n known)
+dot_alike : (i n : ℕ) (known : Known) → Alike known (with_number (Dot i) n known)
 dot_alike i n known = record { part = grown_entry (Dot i) n known; same = λ y other. other_entry (Dot i) n known y (other i) }
 
 -- ---- walks
 
-module _ (setting : Setting) (order : Chunk → List ChunkRow) where
+module _ (scope : Scope) (order : Chunk → List ChunkRow) where
   -- the places lead from the one state to the other; the first has the number i
   abbrev Leads : ℕ → List Place → State → State → Type 0
   Leads i [] st next = st ≡ next
-  Leads i (p ∷ ps) st next = (mid : State) × (line setting order i p st ≡ Ok mid) × Leads (i + 1) ps mid next
+  Leads i (p ∷ ps) st next = (mid : State) × (step scope order i p st ≡ Ok mid) × Leads (i + 1) ps mid next
 
-  module _ (places : List Place) (state : State) (s : Stands setting order places (length places) state) where
+  module _ (places : List Place) (state : State) (s : Stands scope order places (length places) state) where
     rest_leads : (ps : List Place) (i : ℕ) → ((j : ℕ) → slice_get places (i + j) ≡ slice_get ps j) → i + length ps ≡ length places → Leads i ps (s.before i) state
     rest_leads [] i same e = let z : i ≡ length places = omega (arith, e) in ap s.before z ∙ s.last
     rest_leads (p ∷ ps) i same e =
@@ -75,74 +75,74 @@ module _ (setting : Setting) (order : Chunk → List ChunkRow) where
 
   -- ---- lines without rows
 
-  pass_alike : (i n : ℕ) (st next : State) → passed i n st ≡ Ok next → Alike st.known next.known
-  unfolding passed
+  pass_alike : (i n : ℕ) (st next : State) → counter_noted i n st ≡ Ok next → Alike st.known next.known
+  unfolding counter_noted
   pass_alike i n st next e =
-      let same : record st { known = with_entry (Dot i) n st.known } ≡ next = cc in
+      let same : record st { known = with_number (Dot i) n st.known } ≡ next = cc in
       subst (λ (u : State). Alike st.known u.known) same (dot_alike i n st.known)
 
-  location_alike : (i : ℕ) (e : Expression) (st next : State) → location_set setting i e st ≡ Ok next → Alike st.known next.known
+  location_alike : (i : ℕ) (e : Expression) (st next : State) → location_set scope i e st ≡ Ok next → Alike st.known next.known
   unfolding location_set
   location_alike i e st next goes =
-      let first = bind_ok (full setting i (with_entry (Dot i) st.counter st.known) 1024 [] e (point_of i)) _ next goes in
+      let first = bind_ok (full scope i (with_number (Dot i) st.counter st.known) 1024 [] e (point_of i)) _ next goes in
       let both = first.2 in
-      let same : record st { counter = first.0; known = with_entry (Dot i) st.counter st.known; locations = st.locations ++ record { statement = i; address = first.0 } ∷ [] } ≡ next = cc in
+      let same : record st { counter = first.0; known = with_number (Dot i) st.counter st.known; locations = st.locations ++ record { statement = i; address = first.0 } ∷ [] } ≡ next = cc in
       subst (λ (u : State). Alike st.known u.known) same (dot_alike i st.counter st.known)
 
   done_same : (st next : State) → done st ≡ Ok next → st ≡ next
   done_same st next e = cc
 
-  set_line : (i : ℕ) (e : Expression) (st next : State) → line setting order i (SetLocation e) st ≡ Ok next → Alike st.known next.known
-  unfolding line
+  set_line : (i : ℕ) (e : Expression) (st next : State) → step scope order i (SetLocation e) st ≡ Ok next → Alike st.known next.known
+  unfolding step
   set_line i e st next goes = location_alike i e st next goes
 
-  within_line : (i : ℕ) (task : Task) (st next : State) → line setting order i (Within task) st ≡ Ok next → Alike st.known next.known
-  unfolding line
+  within_line : (i : ℕ) (task : Task) (st next : State) → step scope order i (Within task) st ≡ Ok next → Alike st.known next.known
+  unfolding step
   within_line i task st next goes = pass_alike i st.counter st next goes
 
-  outside_line : (i : ℕ) (task : Task) (st next : State) → line setting order i (Outside task) st ≡ Ok next → Alike st.known next.known
-  unfolding line
+  outside_line : (i : ℕ) (task : Task) (st next : State) → step scope order i (Outside task) st ≡ Ok next → Alike st.known next.known
+  unfolding step
   outside_line i task st next goes = pass_alike i 0 st next goes
 
-  idle_line : (i : ℕ) (st next : State) → line setting order i Idle st ≡ Ok next → st ≡ next
-  unfolding line
+  idle_line : (i : ℕ) (st next : State) → step scope order i Idle st ≡ Ok next → st ≡ next
+  unfolding step
   idle_line i st next goes = done_same st next goes
 
-  discards_line : (i : ℕ) (m : Matcher) (st next : State) → line setting order i (Collect None m) st ≡ Ok next → st ≡ next
-  unfolding line collected
+  discards_line : (i : ℕ) (m : Matcher) (st next : State) → step scope order i (Collect None m) st ≡ Ok next → st ≡ next
+  unfolding step chunk_collected
   discards_line i m st next goes = done_same st next goes
 
   -- ---- lines of sections
 
-  open_line : (i s : ℕ) (st next : State) → line setting order i (Open s) st ≡ Ok next → opened s (setting.alignment s) st ≡ Ok next
-  unfolding line
+  open_line : (i s : ℕ) (st next : State) → step scope order i (Open s) st ≡ Ok next → section_opened s (scope.alignment s) st ≡ Ok next
+  unfolding step
   open_line i s st next goes = goes
 
-  collect_line : (i : ℕ) (q : Chunk) (m : Matcher) (st next : State) → line setting order i (Collect (Some q) m) st ≡ Ok next → chunk_placed (order q) st ≡ Ok next
-  unfolding line collected
+  collect_line : (i : ℕ) (q : Chunk) (m : Matcher) (st next : State) → step scope order i (Collect (Some q) m) st ≡ Ok next → chunk_placed (order q) st ≡ Ok next
+  unfolding step chunk_collected
   collect_line i q m st next goes = goes
 
-  rows_line : (i : ℕ) (q : Chunk) (st next : State) → line setting order i (Rows q) st ≡ Ok next → chunk_placed (order q) st ≡ Ok next
-  unfolding line
+  rows_line : (i : ℕ) (q : Chunk) (st next : State) → step scope order i (Rows q) st ≡ Ok next → chunk_placed (order q) st ≡ Ok next
+  unfolding step
   rows_line i q st next goes = goes
 
-  close_line : (i s : ℕ) (rest : Option Chunk) (st next : State) → line setting order i (Close s rest) st ≡ Ok next → closed setting order s rest st ≡ Ok next
-  unfolding line
+  close_line : (i s : ℕ) (rest : Option Chunk) (st next : State) → step scope order i (Close s rest) st ≡ Ok next → section_closed scope order s rest st ≡ Ok next
+  unfolding step
   close_line i s rest st next goes = goes
 
   -- P n holds where sections with numbers below n stand, and Q s within section s
   module _ (P : ℕ → Known → Type 0) (Q : ℕ → State → Type 0)
       (passes : (n : ℕ) (known more : Known) → Alike known more → P n known → P n more)
-      (opens : (s : ℕ) (st next : State) → P s st.known → opened s (setting.alignment s) st ≡ Ok next → Q s next)
+      (opens : (s : ℕ) (st next : State) → P s st.known → section_opened s (scope.alignment s) st ≡ Ok next → Q s next)
       (places_chunk : (q : Chunk) (st next : State) → Q q.«section» st → chunk_placed (order q) st ≡ Ok next → Q q.«section» next)
-      (ends : (s : ℕ) (st next : State) → Q s st → ended_alone setting s st ≡ Ok next → P (s + 1) next.known) where
+      (ends : (s : ℕ) (st next : State) → Q s st → section_ended_alone scope s st ≡ Ok next → P (s + 1) next.known) where
     -- ---- one section
 
-    close_walk : (s : ℕ) (st next : State) (rest : Option Chunk) → ((q : Chunk) → rest ≡ Some q → q.«section» ≡ s) → Q s st → closed setting order s rest st ≡ Ok next → P (s + 1) next.known
-    unfolding closed ended_behind
+    close_walk : (s : ℕ) (st next : State) (rest : Option Chunk) → ((q : Chunk) → rest ≡ Some q → q.«section» ≡ s) → Q s st → section_closed scope order s rest st ≡ Ok next → P (s + 1) next.known
+    unfolding section_closed section_ended_after
     close_walk s st next None own h e = ends s st next h e
     close_walk s st next (Some q) own h e =
-        let first = bind_ok (chunk_placed (order q) st) (ended_alone setting s) next e in
+        let first = bind_ok (chunk_placed (order q) st) (section_ended_alone scope s) next e in
         let same = own q refl in
         let there = places_chunk q st first.0 (subst (λ (u : ℕ). Q u st) (sym same) h) first.1 in
         ends s first.0 next (subst (λ (u : ℕ). Q u first.0) same there) first.2
@@ -161,10 +161,10 @@ module _ (setting : Setting) (order : Chunk → List ChunkRow) where
     section_walk s i x st next h l =
         let first = opens s st l.0 h (open_line i s st l.0 l.1) in
         let parts = leads_over (contents_places s 0 x.commands) (Close s (rest_chunk s x.commands) ∷ []) (i + 1) l.0 next l.2 in
-        let collected = contents_walk s 0 (i + 1) x.commands l.0 parts.0 first parts.1 in
+        let chunk_collected = contents_walk s 0 (i + 1) x.commands l.0 parts.0 first parts.1 in
         let last = parts.2 in
         let goes = close_line last.0 s (rest_chunk s x.commands) parts.0 last.1.0 last.1.1 in
-        subst (λ (u : State). P (s + 1) u.known) last.1.2 (close_walk s parts.0 last.1.0 (rest_chunk s x.commands) (rest_own s x.commands) collected goes)
+        subst (λ (u : State). P (s + 1) u.known) last.1.2 (close_walk s parts.0 last.1.0 (rest_chunk s x.commands) (rest_own s x.commands) chunk_collected goes)
 
     -- ---- statements
 
@@ -182,7 +182,7 @@ module _ (setting : Setting) (order : Chunk → List ChunkRow) where
     section_or_discard true s i x st next h l = subst (λ (u : State). P s u.known) (discard_walk i x st next l) h
     section_or_discard false s i x st next h l = section_walk s i x st next h l
 
-    one_walk : (s i : ℕ) (p : Place) (st next : State) → ((mid : State) → line setting order i p st ≡ Ok mid → Alike st.known mid.known) → P s st.known → Leads i (p ∷ []) st next → P s next.known
+    one_walk : (s i : ℕ) (p : Place) (st next : State) → ((mid : State) → step scope order i p st ≡ Ok mid → Alike st.known mid.known) → P s st.known → Leads i (p ∷ []) st next → P s next.known
     one_walk s i p st next alike h l = subst (λ (u : State). P s u.known) l.2 (passes s st.known l.0.known (alike l.0 l.1) h)
 
     statement_walk : (s i : ℕ) (x : Statement) (st next : State) → P s st.known → Leads i (statement_places s x) st next → P (next_section s x) next.known
@@ -238,7 +238,7 @@ module _ (setting : Setting) (order : Chunk → List ChunkRow) where
         let z : s + 1 + length xs ≡ s + suc (length xs) = omega arith in
         subst (λ (n : ℕ). P n next.known) z (orphans_walk (s + 1) (i + 1 + 1 + 1) xs third.0 next end third.2)
 
-    pub walked : (t : LinkerScript) (inputs : InputTable) (state : State) → Stands setting order (places_of t inputs) (length (places_of t inputs)) state → P 0 nothing → P (length (section_names t inputs)) state.known
+    pub walked : (t : LinkerScript) (inputs : InputTable) (state : State) → Stands scope order (places_of t inputs) (length (places_of t inputs)) state → P 0 nothing → P (length (section_names t inputs)) state.known
     walked t inputs state s h =
         let parts = leads_over (script_places t) (orphan_places (length (sections_of t)) (orphans_of t inputs)) 0 first_state state (all_lead (places_of t inputs) state s) in
         let own = statements_walk 0 0 (statements_of t) first_state parts.0 h parts.1 in

@@ -9,13 +9,13 @@ use Rattle.wild_plan_spec.specs.declared.row.InputRow.{InputRow}
 use Rattle.wild_plan_spec.specs.declared.row.InputTable.{InputTable}
 use Rattle.wild_plan_spec.specs.Chunks.{alignment_of}
 use Rattle.wild_plan_spec.specs.Definitions.{point_of}
-use Rattle.wild_plan_spec.specs.Line.{State}
-use Rattle.wild_plan_spec.specs.Settings.{setting_of}
+use Rattle.wild_plan_spec.specs.Steps.{State}
+use Rattle.wild_plan_spec.specs.Scopes.{scope_of}
 
 -- the expression of place i has a value over what is known at the end, and it is listed with that
 pub record LaidLocationHolds (script : Bytes) (t : LinkerScript) (inputs : InputTable) (state : State) (i : ℕ) (e : Expression) : Type 0 where
   pub address : ℕ
-  pub value : full (setting_of script t inputs) i state.known 1024 [] e (point_of i) ≡ Ok address
+  pub value : full (scope_of script t inputs) i state.known 1024 [] e (point_of i) ≡ Ok address
   pub index : ℕ
   pub listed : slice_get state.locations index ≡ Some (record { statement = i; address = address })
 

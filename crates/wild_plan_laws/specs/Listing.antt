@@ -12,7 +12,7 @@ use Rattle.wild_plan_spec.specs.Chunks.{alignment_of}
 use Rattle.wild_plan_spec.specs.Definitions.{point_of}
 use Rattle.wild_plan_spec.specs.Fit.{IsPlan}
 use Rattle.wild_plan_spec.specs.Layout.{Layout}
-use Rattle.wild_plan_spec.specs.Settings.{setting_of}
+use Rattle.wild_plan_spec.specs.Scopes.{scope_of}
 
 -- it starts at a multiple of its alignment, is loaded where it starts, and ends below 2 ^ 64
 pub record SectionStands (place : PlacedSection) : Type 0 where
@@ -47,6 +47,6 @@ pub record SymbolStands (plan : Layout) (s address : ℕ) (symbol : SymbolRow) :
 -- finished layout
 pub record LocationHolds (script : Bytes) (inputs : InputTable) (plan : Layout) (f : IsPlan script inputs plan) (i : ℕ) (e : Expression) : Type 0 where
   pub address : ℕ
-  pub value : full (setting_of script f.script_tree inputs) i f.fits.state.known 1024 [] e (point_of i) ≡ Ok address
+  pub value : full (scope_of script f.script_tree inputs) i f.fits.state.known 1024 [] e (point_of i) ≡ Ok address
   pub index : ℕ
   pub there : slice_get plan.locations index ≡ Some (record { statement = i; address = address })

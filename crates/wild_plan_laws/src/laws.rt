@@ -10,7 +10,7 @@ ghost use Rattle.wild_plan_spec.specs.declared.row.SymbolRow.{SymbolRow};
 ghost use Rattle.wild_plan_spec.specs.Chunks.{largest_alignment, section_rows};
 ghost use Rattle.wild_plan_spec.specs.Fates.{fates_of, section_names};
 ghost use Rattle.wild_plan_spec.specs.Fit.{IsLaid};
-ghost use Rattle.wild_plan_spec.specs.Line.{State};
+ghost use Rattle.wild_plan_spec.specs.Steps.{State};
 ghost use Rattle.wild_plan_spec.specs.Names.{Name};
 ghost use Rattle.wild_plan_spec.specs.Orphans.{places_of};
 ghost use Rattle.wild_plan_spec.specs.Places.{SetLocation};

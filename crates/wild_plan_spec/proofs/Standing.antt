@@ -6,9 +6,9 @@ use Rattle.std.proofs.lemmas.Option.{slice_get_within, slice_get_cases}
 use Rattle.wild_names.specs.declared.fault.Fault.{Fault}
 use Rattle.wild_plan_spec.specs.declared.chunk.Chunk.{Chunk}
 use Rattle.wild_plan_spec.specs.declared.chunk.ChunkRow.{ChunkRow}
-use Rattle.wild_value_spec.specs.Setting.{Setting}
+use Rattle.wild_value_spec.specs.Scope.{Scope}
 use Rattle.wild_plan_spec.specs.Places.{Place}
-use Rattle.wild_plan_spec.specs.Line.{State, first_state, line}
+use Rattle.wild_plan_spec.specs.Steps.{State, first_state, step}
 use Rattle.wild_plan_spec.specs.Walk.{Stands, Refuses}
 
 -- the element at an index within a list
@@ -18,9 +18,9 @@ at xs i h = ⊎_elim (λ found. (found.0, found.2)) (λ past. absurd (omega (ari
 pub place_at : (xs : List Place) (i : ℕ) → i < length xs → (x : Place) × (slice_get xs i ≡ Some x)
 place_at xs i h = at xs i h
 
-module _ (setting : Setting) (rows : Chunk → List ChunkRow) (places : List Place) where
+module _ (scope : Scope) (rows : Chunk → List ChunkRow) (places : List Place) where
   -- nothing is laid out yet
-  pub stands_first : Stands setting rows places 0 first_state
+  pub stands_first : Stands scope rows places 0 first_state
   stands_first = record { before = λ i. first_state; within = omega arith; first = refl; each = λ i p h. absurd (omega (arith, h)); last = refl }
 
   -- one place more
@@ -36,50 +36,50 @@ module _ (setting : Setting) (rows : Chunk → List ChunkRow) (places : List Pla
   up_to_high k before next i h = cond-false (nat_le i k) (before i) next (lt-leb i k h)
 
   -- a place whose line leads on is laid out
-  pub stands_more : (k : ℕ) (state next : State) (p : Place) → Stands setting rows places k state → slice_get places k ≡ Some p → line setting rows k p state ≡ Ok next → Stands setting rows places (k + 1) next
+  pub stands_more : (k : ℕ) (state next : State) (p : Place) → Stands scope rows places k state → slice_get places k ≡ Some p → step scope rows k p state ≡ Ok next → Stands scope rows places (k + 1) next
   stands_more k state next p s there goes = record {
     before = up_to k s.before next;
     within = omega (arith, slice_get_within places k p there);
     first = up_to_low k s.before next 0 (omega arith) ∙ s.first;
     each = λ i q h at_i. ⊎_elim
-        (λ lt. ap (line setting rows i q) (up_to_low k s.before next i (omega arith)) ∙ s.each i q lt at_i ∙ ap Ok (sym (up_to_low k s.before next (i + 1) (omega arith))))
+        (λ lt. ap (step scope rows i q) (up_to_low k s.before next i (omega arith)) ∙ s.each i q lt at_i ∙ ap Ok (sym (up_to_low k s.before next (i + 1) (omega arith))))
         (λ ge. let same : i ≡ k = omega arith in
         let e : q ≡ p = (let h1 : Some q ≡ Some p = sym at_i ∙ ap (slice_get places) same ∙ there in cc) in
-        ap (line setting rows i q) (up_to_low k s.before next i (omega arith) ∙ ap s.before same ∙ s.last)
+        ap (step scope rows i q) (up_to_low k s.before next i (omega arith) ∙ ap s.before same ∙ s.last)
         ∙ (rw (e, same) goes) ∙ ap Ok (sym (up_to_high k s.before next (i + 1) (omega arith))))
         (cases_lt i k);
     last = up_to_high k s.before next (k + 1) (omega arith);
   }
 
   -- two layouts agree at each place that both reach
-  agree : (k m : ℕ) (state other : State) → (s : Stands setting rows places k state) (t : Stands setting rows places m other) → (i : ℕ) → i ≤ k → i ≤ m → s.before i ≡ t.before i
+  agree : (k m : ℕ) (state other : State) → (s : Stands scope rows places k state) (t : Stands scope rows places m other) → (i : ℕ) → i ≤ k → i ≤ m → s.before i ≡ t.before i
   agree k m state other s t zero h l = s.first ∙ sym t.first
   agree k m state other s t (suc i) h l =
       let found = at places i (omega (arith, s.within)) in
       let one : s.before i ≡ t.before i = agree k m state other s t i (omega arith) (omega arith) in
       let left = s.each i found.0 (omega arith) found.1 in
       let right = t.each i found.0 (omega arith) found.1 in
-      let both : Ok (s.before (i + 1)) ≡ Ok (t.before (i + 1)) = sym left ∙ ap (line setting rows i found.0) one ∙ right in
+      let both : Ok (s.before (i + 1)) ≡ Ok (t.before (i + 1)) = sym left ∙ ap (step scope rows i found.0) one ∙ right in
       let e : s.before (i + 1) ≡ t.before (i + 1) = cc in
       rw add-one at e
 
   -- what stands before a place is one
-  pub stands_once : (k : ℕ) (state other : State) → Stands setting rows places k state → Stands setting rows places k other → state ≡ other
+  pub stands_once : (k : ℕ) (state other : State) → Stands scope rows places k state → Stands scope rows places k other → state ≡ other
   stands_once k state other s t = sym s.last ∙ agree k k state other s t k (omega arith) (omega arith) ∙ t.last
 
   -- behind a refused place nothing stands
-  beyond : (fault : Fault) (k : ℕ) (state : State) → (f : Refuses setting rows places fault) → Stands setting rows places k state → f.place < k → ⊥
+  beyond : (fault : Fault) (k : ℕ) (state : State) → (f : Refuses scope rows places fault) → Stands scope rows places k state → f.place < k → ⊥
   beyond fault k state f s h =
       let same : s.before f.place ≡ f.state = agree k f.place state f.state s f.below f.place (omega arith) (omega arith) ∙ f.below.last in
       let goes = s.each f.place f.statement h f.there in
-      let both : Ok (s.before (f.place + 1)) ≡ Err fault = sym goes ∙ ap (line setting rows f.place f.statement) same ∙ f.refused in
+      let both : Ok (s.before (f.place + 1)) ≡ Err fault = sym goes ∙ ap (step scope rows f.place f.statement) same ∙ f.refused in
       cc
 
   -- where all places are laid out none refuses
-  pub stands_or_refuses : (state : State) (fault : Fault) → Stands setting rows places (length places) state → Refuses setting rows places fault → ⊥
+  pub stands_or_refuses : (state : State) (fault : Fault) → Stands scope rows places (length places) state → Refuses scope rows places fault → ⊥
   stands_or_refuses state fault s f = beyond fault (length places) state f s (slice_get_within places f.place f.statement f.there)
 
-  refused_same : (fault other : Fault) (f : Refuses setting rows places fault) (g : Refuses setting rows places other) → f.place ≡ g.place → fault ≡ other
+  refused_same : (fault other : Fault) (f : Refuses scope rows places fault) (g : Refuses scope rows places other) → f.place ≡ g.place → fault ≡ other
   refused_same fault other f g same =
       let stand : f.state ≡ g.state = sym f.below.last ∙ agree f.place g.place f.state g.state f.below g.below f.place (omega arith) (omega arith) ∙ ap g.below.before same ∙ g.below.last in
       let found : Some f.statement ≡ Some g.statement = sym f.there ∙ ap (slice_get places) same ∙ g.there in
@@ -90,7 +90,7 @@ module _ (setting : Setting) (rows : Chunk → List ChunkRow) (places : List Pla
       cc
 
   -- the fault of the place that refuses is one
-  pub refuses_once : (fault other : Fault) → Refuses setting rows places fault → Refuses setting rows places other → fault ≡ other
+  pub refuses_once : (fault other : Fault) → Refuses scope rows places fault → Refuses scope rows places other → fault ≡ other
   refuses_once fault other f g =
       ⊎_elim
       (λ same. refused_same fault other f g same)
@@ -98,5 +98,5 @@ module _ (setting : Setting) (rows : Chunk → List ChunkRow) (places : List Pla
       (cases_order f.place g.place)
 
   -- a place before which all stands, and whose line refuses
-  pub refuses_at : (k : ℕ) (state : State) (p : Place) (fault : Fault) → Stands setting rows places k state → slice_get places k ≡ Some p → line setting rows k p state ≡ Err fault → Refuses setting rows places fault
+  pub refuses_at : (k : ℕ) (state : State) (p : Place) (fault : Fault) → Stands scope rows places k state → slice_get places k ≡ Some p → step scope rows k p state ≡ Err fault → Refuses scope rows places fault
   refuses_at k state p fault s there refused = record { place = k; state = state; statement = p; below = s; there = there; refused = refused }

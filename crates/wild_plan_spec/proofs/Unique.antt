@@ -8,9 +8,9 @@ use Rattle.wild_plan_spec.specs.declared.chunk.Chunk.{Chunk}
 use Rattle.wild_plan_spec.specs.declared.chunk.ChunkRow.{ChunkRow}
 use Rattle.wild_plan_spec.specs.declared.placed.PlacedSymbol.{PlacedSymbol}
 use Rattle.wild_plan_spec.specs.declared.row.InputTable.{InputTable}
-use Rattle.wild_plan_spec.specs.Settings.{setting_of}
+use Rattle.wild_plan_spec.specs.Scopes.{scope_of}
 use Rattle.wild_plan_spec.specs.Orphans.{places_of}
-use Rattle.wild_plan_spec.specs.Line.{State}
+use Rattle.wild_plan_spec.specs.Steps.{State}
 use Rattle.wild_plan_spec.specs.Walk.{Stands, Refuses}
 use Rattle.wild_plan_spec.specs.End.{finished}
 use Rattle.wild_plan_spec.specs.Layout.{Layout, layout}
@@ -27,12 +27,12 @@ module _ (script : Bytes) (t : LinkerScript) (inputs : InputTable) where
   laid_once : (r s : State) → IsLaid script t inputs r → IsLaid script t inputs s → r ≡ s
   laid_once r s f g =
       let same = orders_once f.order g.order f.ordered g.ordered in
-      let stands = subst (λ (o : Chunk → List ChunkRow). Stands (setting_of script t inputs) o (places_of t inputs) (length (places_of t inputs)) r) same f.stands in
-      stands_once (setting_of script t inputs) g.order (places_of t inputs) (length (places_of t inputs)) r s stands g.stands
+      let stands = subst (λ (o : Chunk → List ChunkRow). Stands (scope_of script t inputs) o (places_of t inputs) (length (places_of t inputs)) r) same f.stands in
+      stands_once (scope_of script t inputs) g.order (places_of t inputs) (length (places_of t inputs)) r s stands g.stands
 
-  found_once : (r s : State) (xs ys : List PlacedSymbol) → r ≡ s → finished (setting_of script t inputs) r.known (places_of t inputs) ≡ Ok xs → finished (setting_of script t inputs) s.known (places_of t inputs) ≡ Ok ys → xs ≡ ys
+  found_once : (r s : State) (xs ys : List PlacedSymbol) → r ≡ s → finished (scope_of script t inputs) r.known (places_of t inputs) ≡ Ok xs → finished (scope_of script t inputs) s.known (places_of t inputs) ≡ Ok ys → xs ≡ ys
   found_once r s xs ys same f g =
-      let both : Ok xs ≡ Ok ys = sym f ∙ ap (λ (u : State). finished (setting_of script t inputs) u.known (places_of t inputs)) same ∙ g in
+      let both : Ok xs ≡ Ok ys = sym f ∙ ap (λ (u : State). finished (scope_of script t inputs) u.known (places_of t inputs)) same ∙ g in
       cc
 
   pub plans_once : (p q : Layout) → Fits script t inputs p → Fits script t inputs q → q ≡ p
@@ -44,13 +44,13 @@ module _ (script : Bytes) (t : LinkerScript) (inputs : InputTable) where
   laid_or_refused : (s : State) (fault : Fault) → IsLaid script t inputs s → LayoutFault script t inputs fault → ⊥
   laid_or_refused s fault f g =
       let same = orders_once g.order f.order g.ordered f.ordered in
-      let refuses = subst (λ (o : Chunk → List ChunkRow). Refuses (setting_of script t inputs) o (places_of t inputs) fault) same g.refuses in
-      stands_or_refuses (setting_of script t inputs) f.order (places_of t inputs) s fault f.stands refuses
+      let refuses = subst (λ (o : Chunk → List ChunkRow). Refuses (scope_of script t inputs) o (places_of t inputs) fault) same g.refuses in
+      stands_or_refuses (scope_of script t inputs) f.order (places_of t inputs) s fault f.stands refuses
 
   ends_or_fits : (p : Layout) (fault : Fault) → Fits script t inputs p → EndFault script t inputs fault → ⊥
   ends_or_fits p fault f g =
       let states = laid_once f.state g.state f.laid g.laid in
-      let both : Ok f.found ≡ Err fault = sym f.finishes ∙ ap (λ (u : State). finished (setting_of script t inputs) u.known (places_of t inputs)) states ∙ g.refused in
+      let both : Ok f.found ≡ Err fault = sym f.finishes ∙ ap (λ (u : State). finished (scope_of script t inputs) u.known (places_of t inputs)) states ∙ g.refused in
       cc
 
   pub plan_or_fault : (p : Layout) (fault : Fault) → Fits script t inputs p → FaultIn script t inputs fault → ⊥
@@ -61,13 +61,13 @@ module _ (script : Bytes) (t : LinkerScript) (inputs : InputTable) where
   refused_once : (fault other : Fault) → LayoutFault script t inputs fault → LayoutFault script t inputs other → other ≡ fault
   refused_once fault other f g =
       let same = orders_once g.order f.order g.ordered f.ordered in
-      let refuses = subst (λ (o : Chunk → List ChunkRow). Refuses (setting_of script t inputs) o (places_of t inputs) other) same g.refuses in
-      refuses_once (setting_of script t inputs) f.order (places_of t inputs) other fault refuses f.refuses
+      let refuses = subst (λ (o : Chunk → List ChunkRow). Refuses (scope_of script t inputs) o (places_of t inputs) other) same g.refuses in
+      refuses_once (scope_of script t inputs) f.order (places_of t inputs) other fault refuses f.refuses
 
   ended_once : (fault other : Fault) → EndFault script t inputs fault → EndFault script t inputs other → other ≡ fault
   ended_once fault other f g =
       let states = laid_once g.state f.state g.laid f.laid in
-      let both : Err other ≡ Err fault = sym g.refused ∙ ap (λ (u : State). finished (setting_of script t inputs) u.known (places_of t inputs)) states ∙ f.refused in
+      let both : Err other ≡ Err fault = sym g.refused ∙ ap (λ (u : State). finished (scope_of script t inputs) u.known (places_of t inputs)) states ∙ f.refused in
       cc
 
   pub faults_once : (fault other : Fault) → FaultIn script t inputs fault → FaultIn script t inputs other → other ≡ fault

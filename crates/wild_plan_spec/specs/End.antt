@@ -7,9 +7,9 @@ use Rattle.wild_expression_tree.specs.declared.tree.Expression.{Expression}
 use Rattle.wild_script.specs.declared.tree.ProvideSymbolDefinition.{ProvideSymbolDefinition}
 use Rattle.wild_value_spec.specs.Answer.{◌>>=◌}
 use Rattle.wild_value_spec.specs.Known.{Known}
-use Rattle.wild_value_spec.specs.Setting.{Definition, OfScript, Setting}
-use Rattle.wild_value_spec.specs.Value.{full, tested}
-use Rattle.wild_plan_spec.specs.declared.placed.PlacedSymbol.{PlacedSymbol}
+use Rattle.wild_value_spec.specs.Scope.{Definition, OfScript, Scope}
+use Rattle.wild_value_spec.specs.Value.{full, assert_statement}
+use Rattle.wild_plan_spec.specs.declared.listed_symbol.PlacedSymbol.{PlacedSymbol}
 use Rattle.wild_plan_spec.specs.Definitions.{point_of}
 use Rattle.wild_plan_spec.specs.Names.{Name}
 use Rattle.wild_plan_spec.specs.Places.{Place, Task, Assign, Provide, Locate, Check, task_of}
@@ -23,30 +23,30 @@ abbrev pub is_at : ℕ → Option Definition → Bool
 is_at i (Some (OfScript e q)) = q.place == i
 is_at i d = false
 
-module _ (setting : Setting) (known : Known) where
+module _ (scope : Scope) (known : Known) where
   -- ---- symbols
 
   -- an expression has a value, and nothing is listed
-  unfoldable pub evaluated : ℕ → Expression → Result (Option PlacedSymbol) Fault
-  evaluated i e = full setting i known 1024 [] e (point_of i) >>= (λ n. Ok None)
+  unfoldable pub unlisted : ℕ → Expression → Result (Option PlacedSymbol) Fault
+  unlisted i e = full scope i known 1024 [] e (point_of i) >>= (λ n. Ok None)
 
   -- a symbol is listed with its value, which must not ask for itself
-  unfoldable pub placed : ℕ → Name → Expression → Bool → Result (Option PlacedSymbol) Fault
-  placed i name e hidden = full setting i known 1024 (name ∷ []) e (point_of i) >>= (λ n. Ok (Some (script_symbol name hidden n)))
+  unfoldable pub listed_symbol : ℕ → Name → Expression → Bool → Result (Option PlacedSymbol) Fault
+  listed_symbol i name e hidden = full scope i known 1024 (name ∷ []) e (point_of i) >>= (λ n. Ok (Some (script_symbol name hidden n)))
 
   -- an empty name is not listed
-  abbrev pub assigned : ℕ → Name → Expression → Result (Option PlacedSymbol) Fault
-  assigned i [] e = evaluated i e
-  assigned i (b ∷ bs) e = placed i (b ∷ bs) e false
+  abbrev pub assignment_symbol : ℕ → Name → Expression → Result (Option PlacedSymbol) Fault
+  assignment_symbol i [] e = unlisted i e
+  assignment_symbol i (b ∷ bs) e = listed_symbol i (b ∷ bs) e false
 
   -- where it is the definition that counts
-  abbrev pub provided : ℕ → ProvideSymbolDefinition → Result (Option PlacedSymbol) Fault
-  provided i d = if is_at i (setting.definition d.name) then placed i d.name d.value d.hidden else Ok None
+  abbrev pub provide_symbol : ℕ → ProvideSymbolDefinition → Result (Option PlacedSymbol) Fault
+  provide_symbol i d = if is_at i (scope.definition d.name) then listed_symbol i d.name d.value d.hidden else Ok None
 
   unfoldable pub task_symbol : ℕ → Option Task → Result (Option PlacedSymbol) Fault
-  task_symbol i (Some (Assign name e)) = assigned i name e
-  task_symbol i (Some (Provide d)) = provided i d
-  task_symbol i (Some (Locate e)) = evaluated i e
+  task_symbol i (Some (Assign name e)) = assignment_symbol i name e
+  task_symbol i (Some (Provide d)) = provide_symbol i d
+  task_symbol i (Some (Locate e)) = unlisted i e
   task_symbol i (Some (Check c)) = Ok None
   task_symbol i None = Ok None
 
@@ -58,11 +58,11 @@ module _ (setting : Setting) (known : Known) where
   -- ---- conditions
 
   -- the condition of an ASSERT is not 0
-  abbrev pub tested_at : ℕ → AssertCommand → Result (Unit {0}) Fault
-  tested_at i c = tested setting i known c (point_of i) >>= (λ x. Ok tt)
+  abbrev pub assert_holds : ℕ → AssertCommand → Result (Unit {0}) Fault
+  assert_holds i c = assert_statement scope i known c (point_of i) >>= (λ x. Ok tt)
 
   unfoldable pub task_holds : ℕ → Option Task → Result (Unit {0}) Fault
-  task_holds i (Some (Check c)) = tested_at i c
+  task_holds i (Some (Check c)) = assert_holds i c
   task_holds i (Some (Assign name e)) = Ok tt
   task_holds i (Some (Provide d)) = Ok tt
   task_holds i (Some (Locate e)) = Ok tt

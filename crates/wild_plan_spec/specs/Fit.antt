@@ -8,12 +8,12 @@ use Rattle.wild_plan_spec.specs.declared.chunk.ChunkRow.{ChunkRow}
 use Rattle.wild_plan_spec.specs.declared.placed.PlacedSymbol.{PlacedSymbol}
 use Rattle.wild_plan_spec.specs.declared.row.InputTable.{InputTable}
 use Rattle.wild_plan_spec.specs.Fates.{fates_of}
-use Rattle.wild_plan_spec.specs.Settings.{setting_of}
+use Rattle.wild_plan_spec.specs.Scopes.{scope_of}
 use Rattle.wild_plan_spec.specs.Chunks.{rows_in}
 use Rattle.wild_plan_spec.specs.Order.{IsOrdered, stands_before}
 use Rattle.wild_plan_spec.specs.Checks.{checks, failing}
 use Rattle.wild_plan_spec.specs.Orphans.{places_of}
-use Rattle.wild_plan_spec.specs.Line.{State}
+use Rattle.wild_plan_spec.specs.Steps.{State}
 use Rattle.wild_plan_spec.specs.Walk.{Stands, Refuses}
 use Rattle.wild_plan_spec.specs.End.{finished}
 use Rattle.wild_plan_spec.specs.Layout.{Layout, layout}
@@ -28,14 +28,14 @@ module _ (script : Bytes) (t : LinkerScript) (inputs : InputTable) where
     pub sound : failing (checks t inputs) ≡ None
     pub order : Chunk → List ChunkRow
     pub ordered : AreOrdered order
-    pub stands : Stands (setting_of script t inputs) order (places_of t inputs) (length (places_of t inputs)) state
+    pub stands : Stands (scope_of script t inputs) order (places_of t inputs) (length (places_of t inputs)) state
 
   -- Then all symbols have values and all conditions hold over what is known, and the plan lists that.
   pub record Fits (plan : Layout) : Type 0 where
     pub state : State
     pub laid : IsLaid state
     pub found : List PlacedSymbol
-    pub finishes : finished (setting_of script t inputs) state.known (places_of t inputs) ≡ Ok found
+    pub finishes : finished (scope_of script t inputs) state.known (places_of t inputs) ≡ Ok found
     pub listed : plan ≡ layout t inputs state found
 
   -- All checks hold, and a place refuses.
@@ -43,13 +43,13 @@ module _ (script : Bytes) (t : LinkerScript) (inputs : InputTable) where
     pub sound : failing (checks t inputs) ≡ None
     pub order : Chunk → List ChunkRow
     pub ordered : AreOrdered order
-    pub refuses : Refuses (setting_of script t inputs) order (places_of t inputs) fault
+    pub refuses : Refuses (scope_of script t inputs) order (places_of t inputs) fault
 
   -- All places are laid out, and a symbol has no value, or else a condition does not hold.
   pub record EndFault (fault : Fault) : Type 0 where
     pub state : State
     pub laid : IsLaid state
-    pub refused : finished (setting_of script t inputs) state.known (places_of t inputs) ≡ Err fault
+    pub refused : finished (scope_of script t inputs) state.known (places_of t inputs) ≡ Err fault
 
   -- the first check that fails, or the first place that refuses, or the first fault behind them
   abbrev pub FaultIn : Fault → Type 0

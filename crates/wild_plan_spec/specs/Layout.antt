@@ -20,7 +20,7 @@ use Rattle.wild_plan_spec.specs.Fates.{section_names, fates_of}
 use Rattle.wild_plan_spec.specs.Names.{Name}
 use Rattle.wild_plan_spec.specs.Chunks.{section_rows, largest_alignment}
 use Rattle.wild_value_spec.specs.Known.{Known, Start, Load, End, Address, number_at}
-use Rattle.wild_plan_spec.specs.Line.{State}
+use Rattle.wild_plan_spec.specs.Steps.{State}
 
 -- a plan, as callers see it
 pub record Layout : Type 0 where

@@ -8,9 +8,9 @@ pub mod Chunks
 pub mod Order
 pub mod Built
 pub mod Definitions
-pub mod Settings
+pub mod Scopes
 pub mod Checks
-pub mod Line
+pub mod Steps
 pub mod Walk
 pub mod End
 pub mod Layout

@@ -1,6 +1,6 @@
 -- A comment ends here, or further on.
 use Rattle.std.proofs.Common.{◌≡◌, ◌<◌, ◌≤◌, ◌+◌, ◌-◌, ℕ, suc, true, false, length, refl, arith, Some, None}
-use Rattle.wild_reading.specs.Place.{Bytes}
+use Rattle.wild_reading.specs.Position.{Bytes}
 use Rattle.wild_reading.specs.Bytes.{ends_comment}
 use Rattle.wild_reading.specs.Lex.{after_close}
 

@@ -4,7 +4,7 @@ use Rattle.std.specs.Prelude.{Option, Some, None, Result, Ok, Err, cond}
 use Rattle.std.specs.Option.{option_map}
 use Rattle.std.specs.List.{find, range_with_len}
 use Rattle.std.proofs.lemmas.Option.{slice_get_past}
-use Rattle.wild_reading.specs.Place.{Bytes}
+use Rattle.wild_reading.specs.Position.{Bytes}
 use Rattle.wild_reading.specs.Bytes.{run_end, is_white, is_in_line, begins, begins_comment, ends_comment, line_end, past_white}
 use Rattle.wild_reading.specs.Lex.{after_line, after_close, after_comment, ends_gap, or_stop, stretch_end, go_on, stretches_end, rest_of_gap, gap_end}
 use Rattle.wild_reading.specs.Gap.{GapsHaveThreeCases}

@@ -1,7 +1,7 @@
 -- A place further on has less ahead, and no fewer marks behind it.
 use Rattle.std.proofs.Common.{◌≡◌, ℕ, ◌≤◌, ◌<◌, length, arith, true, false, Bool, refl, if◌then◌else◌}
 use Rattle.std.specs.Prelude.{not, ◌&&◌, Option, None}
-use Rattle.wild_reading.specs.Place.{Bytes, Text, ahead, mark_count}
+use Rattle.wild_reading.specs.Position.{Bytes, Text, ahead, mark_count}
 use Rattle.wild_reading.specs.Bytes.{begins, begins_comment}
 use Rattle.wild_reading.specs.Lex.{after_comment, ends_gap}
 use Rattle.wild_reading.specs.Gap.{IsOpen}

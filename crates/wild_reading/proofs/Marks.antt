@@ -6,7 +6,7 @@ use Rattle.std.proofs.lemmas.List.Sums.{count_by_more_yes, sum_by-append}
 use Rattle.std.proofs.lemmas.Option.{slice_get_within, get_or_from_slice_get}
 use Rattle.std.proofs.lemmas.Bool.{eqb-true}
 use Rattle.std.proofs.Math.Seq.{take-add}
-use Rattle.wild_reading.specs.Place.{Bytes, Text, Place, IsPaid, is_mark, mark_count}
+use Rattle.wild_reading.specs.Position.{Bytes, Text, Position, IsPaid, is_mark, mark_count}
 use Rattle.wild_reading.specs.Bytes.{is_byte, begins}
 use Rattle.wild_reading.specs.Only.{IsOnly}
 use Rattle.wild_reading.specs.Reader.{Reader}
@@ -35,7 +35,7 @@ unfolding begins
 marked c b i h m = found_mark b c i (slice_get b i) refl h m
 
 -- what is paid stays paid while reading goes on
-pub paid_on : {X : Type 0} {R : Reader X} {s r : Place} {x : X} {more : ℕ} → IsOnly R s x r → IsPaid more s → IsPaid more r
+pub paid_on : {X : Type 0} {R : Reader X} {s r : Position} {x : X} {more : ℕ} → IsOnly R s x r → IsPaid more s → IsPaid more r
 paid_on {s = s} {r = r} {more = more} p q =
     let at_start : IsPaid more (record { text = s.text; at = r.at; left = s.left }) = record { paid = omega (arith, q.paid, mark_count-rises s.text.bytes s.at r.at p.forward) } in
     let text_same : IsPaid more (record { text = r.text; at = r.at; left = s.left }) = subst (λ (t : Text). IsPaid more (record { text = t; at = r.at; left = s.left })) (sym p.text) at_start in

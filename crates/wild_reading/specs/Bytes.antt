@@ -1,7 +1,7 @@
 -- White, tokens, names, and what stands ahead at a position.
 use Rattle.std.specs.Prelude.{ℕ, ◌+◌, length, Bool, false, not, ◌||◌, ◌&&◌, ◌==◌, Option, Some, None, List, slice_get, drop, nat_eq}
 use Rattle.std.specs.List.{prefix_len, starts_with}
-use Rattle.wild_reading.specs.Place.{Bytes}
+use Rattle.wild_reading.specs.Position.{Bytes}
 
 -- ---- bytes
 

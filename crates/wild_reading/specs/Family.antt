@@ -1,6 +1,6 @@
 -- Readers by a key, that nest in one another; and folds.
 use Rattle.std.specs.Prelude.{◌≡◌, ℕ, zero, suc, ◌<◌, Bool, true, false}
-use Rattle.wild_reading.specs.Place.{Bytes}
+use Rattle.wild_reading.specs.Position.{Bytes}
 use Rattle.wild_reading.specs.Reader.{Reader}
 
 -- what the function makes of nothing, so many times

@@ -1,7 +1,7 @@
 -- The three cases of a gap, and what stays open in one.
 use Rattle.std.specs.Prelude.{◌≡◌, ℕ, ◌≤◌, true, false, length, Result, Ok, Err}
 use Rattle.wild_names.specs.declared.fault.Fault.{Fault}
-use Rattle.wild_reading.specs.Place.{Bytes}
+use Rattle.wild_reading.specs.Position.{Bytes}
 use Rattle.wild_reading.specs.Bytes.{past_white}
 use Rattle.wild_reading.specs.Lex.{ends_gap, stretch_end, gap_end}
 use Rattle.wild_reading.specs.Faults.{fault_of}

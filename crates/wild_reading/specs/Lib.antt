@@ -1,4 +1,4 @@
-pub mod Place
+pub mod Position
 pub mod Bytes
 pub mod Reader
 pub mod Lex

@@ -1,7 +1,7 @@
 -- What a function that reads answers.
 use Rattle.std.specs.Prelude.{◌≡◌, ℕ, suc, ◌+◌, ◌≤◌, ◌<◌, length, codes, None, true, Result}
 use Rattle.std.specs.Result.{IfOk, IfErr}
-use Rattle.wild_reading.specs.Place.{Bytes, Text, Place, ahead, mark_count}
+use Rattle.wild_reading.specs.Position.{Bytes, Text, Position, ahead, mark_count}
 use Rattle.wild_reading.specs.Bytes.{begins_with, begins_comment}
 use Rattle.wild_reading.specs.Lex.{after_close, sort_bracket}
 use Rattle.wild_reading.specs.Reader.{Reader}
@@ -9,7 +9,7 @@ use Rattle.wild_reading.specs.declared.stop.Stop.{Stop}
 use Rattle.wild_reading.specs.declared.stop.Stop.TheVariants.{Syntax, OpenComment, NestedSort, TooDeep, NoMemory}
 
 -- this is read within the depth that is left, and nothing else at any depth
-pub record IsOnly {X : Type 0} (R : Reader X) (s : Place) (x : X) (r : Place) : Type 0 where
+pub record IsOnly {X : Type 0} (R : Reader X) (s : Position) (x : X) (r : Position) : Type 0 where
   pub reads : R s.text.bytes s.left s.at x r.at
   pub only : (limit : ℕ) (y : X) (j : ℕ) → R s.text.bytes limit s.at y j → (y ≡ x) × (j ≡ r.at)
   pub text : r.text ≡ s.text
@@ -59,36 +59,36 @@ IsCause (TooDeep position) text = IsTooDeep text position
 IsCause NoMemory text = Unit {0}
 
 -- A fault says that nothing is read within the depth that is left, and one of the text that nothing is at any depth.
-pub record Refuses {X : Type 0} (R : Reader X) (s : Place) (stop : Stop) : Type 0 where
+pub record Refuses {X : Type 0} (R : Reader X) (s : Position) (stop : Stop) : Type 0 where
   pub none : IsFault stop → (y : X) (j : ℕ) → R s.text.bytes s.left s.at y j → ⊥
   pub never : IsSyntax stop → (limit : ℕ) (y : X) (j : ℕ) → R s.text.bytes limit s.at y j → ⊥
   pub cause : IsCause stop s.text
 
-pub record Answers {X : Type 0} (R : Reader X) (s r : Place) (result : Result X Stop) : Type 0 where
+pub record Answers {X : Type 0} (R : Reader X) (s r : Position) (result : Result X Stop) : Type 0 where
   pub ok : IfOk result (λ x. IsOnly R s x r)
   pub err : IfErr result (λ stop. Refuses R s stop)
 
 -- ---- one deeper
 
 -- the same place, with one less of depth
-pub record IsInside (s : Place) (r : Place) : Type 0 where
+pub record IsInside (s : Position) (r : Position) : Type 0 where
   pub text : r.text ≡ s.text
   pub at : r.at ≡ s.at
   pub left : suc r.left ≡ s.left
   pub within : r.left < r.text.limit
 
 -- no depth is left
-pub record IsFull (s : Place) (stop : Stop) : Type 0 where
+pub record IsFull (s : Position) (stop : Stop) : Type 0 where
   pub left : s.left ≡ 0
   pub deep : IsSyntax stop → ⊥
   pub cause : IsCause stop s.text
 
-pub record Enters (s r : Place) (result : Result (Unit {0}) Stop) : Type 0 where
+pub record Enters (s r : Position) (result : Result (Unit {0}) Stop) : Type 0 where
   pub ok : IfOk result (λ _. IsInside s r)
   pub err : IfErr result (λ stop. IsFull s stop)
 
 -- the same place, with one more of depth
-pub record Leaves (s r : Place) : Type 0 where
+pub record Leaves (s r : Position) : Type 0 where
   pub text : r.text ≡ s.text
   pub at : r.at ≡ s.at
   pub left : r.left ≡ suc s.left

@@ -1,7 +1,7 @@
 -- What a grammar is made of. A reader relates bytes, a limit of depth and a position to a value that is read there, and
 -- to the position behind it.
 use Rattle.std.specs.Prelude.{◌≡◌, ℕ, zero, suc, Bool, true, false, List, [], ◌∷◌, Option, Some}
-use Rattle.wild_reading.specs.Place.{Bytes}
+use Rattle.wild_reading.specs.Position.{Bytes}
 
 abbrev pub Reader : Type 0 → Type 1
 Reader X = Bytes → ℕ → ℕ → X → ℕ → Type 0

@@ -1,7 +1,7 @@
 //! A cursor over bytes.
 
 ghost use Rattle.std.specs.Prelude.{◌≡◌, ◌≤◌, ◌<◌, ◌+◌, ◌^◌, length, true, OnOk, IfOk};
-ghost use Rattle.wild_reading.specs.Place.{ahead, is_mark, IsPaid, IsMarked};
+ghost use Rattle.wild_reading.specs.Position.{ahead, is_mark, IsPaid, IsMarked};
 ghost use Rattle.wild_reading.specs.Bytes as spec;
 ghost use Rattle.wild_reading.specs.Lex as lexis;
 ghost use Rattle.wild_reading.specs.Reader as readers;
@@ -30,9 +30,9 @@ pub struct Cursor<'a> {
 
 impl<'a> Model for Cursor<'a> {
     ghost use Rattle.std.specs.Prelude.{◌+◌, ◌-◌, ◌≤◌, length};
-    ghost use Rattle.wild_reading.specs.Place.{Place, mark_count};
+    ghost use Rattle.wild_reading.specs.Position.{Position, mark_count};
 
-    ghost Value = { Place };
+    ghost Value = { Position };
 
     ghost view = { λ c. record { text = record { bytes = c.bytes.now; start = c.start; limit = c.limit }; at = c.at; left = c.limit - c.depth } };
 

@@ -1,7 +1,7 @@
 //! Lists of what is read one after another.
 
 ghost use Rattle.std.specs.Prelude.{◌<◌, OnOk};
-ghost use Rattle.wild_reading.specs.Place.{ahead};
+ghost use Rattle.wild_reading.specs.Position.{ahead};
 ghost use Rattle.wild_reading.specs.Bytes as spec;
 ghost use Rattle.wild_reading.specs.Reader.{Until};
 ghost use Rattle.wild_reading.specs.Only.{Answers};

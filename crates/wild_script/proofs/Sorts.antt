@@ -1,7 +1,7 @@
 -- A sort word directly in the brackets of another.
 use Rattle.std.proofs.Common.{◌≡◌, ℕ, ◌≤◌, true, false, length, refl, sym, subst, ap}
 use Rattle.std.specs.Prelude.{Err}
-use Rattle.wild_reading.specs.Place.{Bytes, Text, Place}
+use Rattle.wild_reading.specs.Position.{Bytes, Text, Position}
 use Rattle.wild_reading.specs.Lex.{byte, gap, sort_bracket}
 use Rattle.wild_reading.specs.Only.{IsOnly, Refuses, Answers, IsNestedSort}
 use Rattle.wild_reading.specs.declared.stop.Stop.{Stop}
@@ -31,7 +31,7 @@ bracket_at b limit other i j h = record {
 
 -- ---- a sort word and its bracket
 
-module _ {s m : Place} {x : Unit {0}} (p : IsOnly sort_bracket s x m) where
+module _ {s m : Position} {x : Unit {0}} (p : IsOnly sort_bracket s x m) where
   same_bytes : m.text.bytes ≡ s.text.bytes
   same_bytes = ap (λ (n : Text). n.bytes) p.text
 
@@ -48,7 +48,7 @@ module _ {s m : Place} {x : Unit {0}} (p : IsOnly sort_bracket s x m) where
   unfolding no_sort has_no_sort
   followed w t = record { none = λ e y j h. cc (t, h.holds); never = λ e limit y j h. cc (t, h.holds); cause = nested w t }
 
-  pub nested_answers : begins_sort m.text.bytes m.at ≡ true → {position : ℕ} → position ≡ m.at → position ≤ length m.text.bytes → {r : Place} → Answers sort_open s r (Err (NestedSort position))
+  pub nested_answers : begins_sort m.text.bytes m.at ≡ true → {position : ℕ} → position ≡ m.at → position ≤ length m.text.bytes → {r : Position} → Answers sort_open s r (Err (NestedSort position))
   unfolding sort_open
   nested_answers t e w = rw e (answers_refused (bind_then_refuses p (followed (subst (λ (n : ℕ). n ≤ length m.text.bytes) e w) t)))
 
@@ -56,7 +56,7 @@ module _ {s m : Place} {x : Unit {0}} (p : IsOnly sort_bracket s x m) where
   unfolding sort_open no_sort has_no_sort
   sort_opens f = bind_only p (ahead_only (rw f refl))
 
-pub bracket_refuses : {s : Place} {stop : Stop} → Refuses sort_bracket s stop → Refuses sort_open s stop
+pub bracket_refuses : {s : Position} {stop : Stop} → Refuses sort_bracket s stop → Refuses sort_open s stop
 unfolding sort_open
 bracket_refuses p = bind_refuses p
 

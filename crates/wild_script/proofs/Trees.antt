@@ -2,8 +2,8 @@
 use Rattle.std.proofs.Common.{◌≡◌, ◌⊎◌, ℕ, ◌+◌, ◌≤◌, true, length, subst, sym, ◌∙◌, ap, inl, inr, refl, arith}
 use Rattle.std.proofs.lemmas.Bool.{eqb-true}
 use Rattle.wild_names.specs.declared.fault.Fault.TheVariants as fault
-use Rattle.wild_reading.specs.Place as place
-use Rattle.wild_reading.specs.Place.{Bytes, Text, Place}
+use Rattle.wild_reading.specs.Position as place
+use Rattle.wild_reading.specs.Position.{Bytes, Text, Position}
 use Rattle.wild_reading.specs.Bytes.{is_end}
 use Rattle.wild_reading.specs.Only.{IsOnly, Refuses, IsOpenComment, IsNestedSort}
 use Rattle.wild_reading.specs.declared.stop.Stop.{Stop}
@@ -22,21 +22,21 @@ unfolding script commands
 script_ends b depth i t j h = h.second.second.end ∙ is_length b _ (until_ends b depth _ _ _ h.second.first)
 
 -- a tree of the bytes is what is read from their start
-from_place : (b : Bytes) (s : Place) → s.text.bytes ≡ b → s.at ≡ 0 → (depth : ℕ) (t : LinkerScript) (j : ℕ) → script s.text.bytes depth s.at t j → tree_within depth b t
+from_place : (b : Bytes) (s : Position) → s.text.bytes ≡ b → s.at ≡ 0 → (depth : ℕ) (t : LinkerScript) (j : ℕ) → script s.text.bytes depth s.at t j → tree_within depth b t
 unfolding tree_within
 from_place b s e g depth t j h =
     let there : script b depth 0 t j = subst (λ (n : ℕ). script b depth n t j) g (subst (λ (n : Bytes). script n depth s.at t j) e h) in
     subst (λ (n : ℕ). script b depth 0 t n) (script_ends b depth 0 t j there) there
 
-to_place : (b : Bytes) (s : Place) → s.text.bytes ≡ b → s.at ≡ 0 → (depth : ℕ) (t : LinkerScript) → tree_within depth b t → script s.text.bytes depth s.at t (length b)
+to_place : (b : Bytes) (s : Position) → s.text.bytes ≡ b → s.at ≡ 0 → (depth : ℕ) (t : LinkerScript) → tree_within depth b t → script s.text.bytes depth s.at t (length b)
 unfolding tree_within
 to_place b s e g depth t h = subst (λ (n : ℕ). script s.text.bytes depth n t (length b)) (sym g) (subst (λ (n : Bytes). script n depth 0 t (length b)) (sym e) h)
 
-module _ {b : Bytes} {s : Place} (w : s.text ≡ record { bytes = b; start = 0; limit = 256 }) (g : s.at ≡ 0) (l : s.left ≡ 256) where
+module _ {b : Bytes} {s : Position} (w : s.text ≡ record { bytes = b; start = 0; limit = 256 }) (g : s.at ≡ 0) (l : s.left ≡ 256) where
   same_bytes : s.text.bytes ≡ b
   same_bytes = ap (λ (t : Text). t.bytes) w
 
-  pub one_tree : {t : LinkerScript} {r : Place} → IsOnly script s t r → IsTree b t
+  pub one_tree : {t : LinkerScript} {r : Position} → IsOnly script s t r → IsTree b t
   one_tree {t} {r} p = record {
     is = subst (λ (n : ℕ). tree_within n b t) l (from_place b s same_bytes g s.left t r.at p.reads);
     only = λ depth u h. (p.only depth u (length b) (to_place b s same_bytes g depth u h)).0;

@@ -1,7 +1,7 @@
 -- Matchers of input sections.
 use Rattle.std.specs.Prelude.{ℕ, Bool, true, if◌then◌else◌, List, Option, Some, None, codes}
 use Rattle.std.specs.Str.{bytes_eq}
-use Rattle.wild_reading.specs.Place.{Bytes}
+use Rattle.wild_reading.specs.Position.{Bytes}
 use Rattle.wild_reading.specs.Reader.{Reader, ◌>>=◌, ◌>>◌, Give}
 use Rattle.wild_reading.specs.Lex.{byte, symbol, word}
 use Rattle.wild_script.specs.Pattern.{pattern_list}

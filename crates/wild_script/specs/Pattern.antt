@@ -1,6 +1,6 @@
 -- Patterns of names of input sections.
 use Rattle.std.specs.Prelude.{ℕ, Bool, true, false, not, List, codes}
-use Rattle.wild_reading.specs.Place.{Bytes}
+use Rattle.wild_reading.specs.Position.{Bytes}
 use Rattle.wild_reading.specs.Bytes.{begins, begins_with}
 use Rattle.wild_reading.specs.Reader.{Reader, ◌>>=◌, ◌>>◌, Give, Ahead, Choice, Until}
 use Rattle.wild_reading.specs.Lex as lexis

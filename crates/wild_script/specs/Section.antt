@@ -1,7 +1,7 @@
 -- Output sections, and the other statements of SECTIONS.
 use Rattle.std.specs.Prelude.{ℕ, Bool, true, false, not, ◌||◌, List, [], Option, Some, None}
 use Rattle.std.specs.Str.{bytes_eq}
-use Rattle.wild_reading.specs.Place.{Bytes}
+use Rattle.wild_reading.specs.Position.{Bytes}
 use Rattle.wild_reading.specs.Bytes.{begins}
 use Rattle.wild_reading.specs.Reader.{Reader, ◌>>=◌, ◌>>◌, Give, check, Ahead, Choice, If}
 use Rattle.wild_reading.specs.Lex.{word, symbol, optional_symbol}

@@ -2,7 +2,7 @@
 use Rattle.std.specs.Prelude.{◌≡◌, ℕ, ◌≤◌, List, length}
 use Rattle.wild_names.specs.declared.fault.Fault.{Fault}
 use Rattle.wild_names.specs.declared.fault.Fault.TheVariants.{Syntax, UnclosedComment, UnsupportedNestedSort, TooDeep}
-use Rattle.wild_reading.specs.Place as place
+use Rattle.wild_reading.specs.Position as place
 use Rattle.wild_reading.specs.Bytes.{is_end}
 use Rattle.wild_reading.specs.Reader.{Reader, ◌>>=◌, ◌>>◌, Give, Until}
 use Rattle.wild_reading.specs.Lex.{gap}

@@ -1,7 +1,7 @@
 -- Words that statements begin with.
 use Rattle.std.specs.Prelude.{if◌then◌else◌, Option, Some, None, codes}
 use Rattle.std.specs.Str.{bytes_eq}
-use Rattle.wild_reading.specs.Place.{Bytes}
+use Rattle.wild_reading.specs.Position.{Bytes}
 use Rattle.wild_script.specs.declared.words.CommandWord.{CommandWord}
 use Rattle.wild_script.specs.declared.words.CommandWord.TheVariants as c
 use Rattle.wild_reading.specs.Lex.{Word}

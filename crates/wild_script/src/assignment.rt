@@ -3,13 +3,13 @@
 ghost use Rattle.std.specs.Prelude.{◌≡◌, ◌≤◌, ◌<◌, ◌+◌, length, IfOk, IfSome, OnOk};
 ghost use Rattle.std.specs.Bool.{OnTrue};
 ghost use Rattle.wild_reading.specs.Only.{Answers};
-ghost use Rattle.wild_reading.specs.Place.{ahead};
+ghost use Rattle.wild_reading.specs.Position.{ahead};
 ghost use Rattle.wild_script.specs.Assignment as spec;
 
 use sqlite_items::Boxed;
 use std::alloc::Global;
-use wild_names::{Name, NoMemory};
 use wild_expression::{Expression, Level, Operator, expression, inner_value, node};
+use wild_names::{Name, NoMemory};
 use wild_reading::{Cursor, Stop, begins};
 
 #[tactic(auto, unfolding(crate::specs::Assignment::begins_set))]

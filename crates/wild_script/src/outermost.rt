@@ -2,7 +2,7 @@
 
 ghost use Rattle.std.specs.Prelude.{◌<◌, OnOk};
 ghost use Rattle.wild_reading.specs.Only.{Answers};
-ghost use Rattle.wild_reading.specs.Place.{ahead};
+ghost use Rattle.wild_reading.specs.Position.{ahead};
 ghost use Rattle.wild_script.specs.Outermost as spec;
 
 use crate::assignment::{is_dot, open_value};
@@ -11,8 +11,8 @@ use crate::tree::{Command, Location, SectionCommand, Sections};
 use crate::words::{CommandWord, command_word, nothing};
 use sqlite_items::Items;
 use std::alloc::Global;
-use wild_names::Name;
 use wild_expression::assert_body;
+use wild_names::Name;
 use wild_reading::{Cursor, Stop, read_until};
 
 #[tactic(auto, unfolding(crate::specs::Outermost::section_statements))]

@@ -3,7 +3,7 @@
 ghost use Rattle.std.specs.Prelude.{◌≡◌, ◌≤◌, ◌<◌, ◌+◌, length, IfOk, IfSome, OnOk};
 ghost use Rattle.std.specs.Bool.{OnTrue};
 ghost use Rattle.wild_reading.specs.Only.{Answers};
-ghost use Rattle.wild_reading.specs.Place.{ahead};
+ghost use Rattle.wild_reading.specs.Position.{ahead};
 ghost use Rattle.wild_reading.specs.Bytes as tests;
 ghost use Rattle.wild_reading.specs.Lex as lexis;
 ghost use Rattle.wild_reading.specs.Reader.{Passes};

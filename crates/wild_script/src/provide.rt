@@ -2,7 +2,7 @@
 
 ghost use Rattle.std.specs.Prelude.{◌<◌, OnOk};
 ghost use Rattle.wild_reading.specs.Only.{Answers};
-ghost use Rattle.wild_reading.specs.Place.{ahead};
+ghost use Rattle.wild_reading.specs.Position.{ahead};
 ghost use Rattle.wild_script.specs.Provide as spec;
 
 use crate::tree::ProvideSymbolDefinition;

@@ -2,7 +2,7 @@
 
 ghost use Rattle.std.specs.Prelude.{◌≡◌, ◌<◌, OnOk};
 ghost use Rattle.wild_reading.specs.Only.{Answers};
-ghost use Rattle.wild_reading.specs.Place.{ahead};
+ghost use Rattle.wild_reading.specs.Position.{ahead};
 ghost use Rattle.wild_script.specs.Section as spec;
 
 use crate::assignment::{begins_assignment, closed_value, is_dot};
@@ -12,8 +12,8 @@ use crate::tree::{Location, Section, SectionCommand, SymbolAssignment};
 use crate::words::{StatementWord, statement_word};
 use sqlite_items::Boxed;
 use std::alloc::Global;
-use wild_names::Name;
 use wild_expression::assert_body;
+use wild_names::Name;
 use wild_reading::{Cursor, Grammar, Stop};
 
 #[tactic(auto, unfolding(crate::specs::Section::is_section_name))]

@@ -1,8 +1,8 @@
 //! Linker scripts as trees.
 
 use sqlite_items::{Boxed, Items};
-use wild_names::Name;
 use wild_expression::{AssertCommand, Expression};
+use wild_names::Name;
 
 /// A script: its outermost commands in text order.
 #[derive(Debug, Drop)]

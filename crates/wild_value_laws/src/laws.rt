@@ -5,18 +5,18 @@ ghost use Rattle.wild_expression_tree.specs.declared.tree.Expression.{Expression
 ghost use Rattle.wild_value_laws.specs.Stable.{Stays};
 ghost use Rattle.wild_value_spec.specs.declared.value.Point.{Point};
 ghost use Rattle.wild_value_spec.specs.Known.{Known, IsPart};
-ghost use Rattle.wild_value_spec.specs.Setting.{Name, Setting};
+ghost use Rattle.wild_value_spec.specs.Scope.{Name, Scope};
 ghost use Rattle.wild_value_spec.specs.Value.{value, full};
 
 /// The value of an expression over a part of what is known is that over all of it, unless it asks for what is not laid
 /// out yet. A fault stays as a value does.
 pub fn values_stay()
-    ensures { (setting : Setting) (statement : ℕ) (known more : Known) → IsPart known more → (levels : ℕ) (path : List Name) (e : Expression) (p : Point)
-        → Stays (value setting statement known levels path e p) (value setting statement more levels path e p) }
+    ensures { (scope : Scope) (statement : ℕ) (known more : Known) → IsPart known more → (levels : ℕ) (path : List Name) (e : Expression) (p : Point)
+        → Stays (value scope statement known levels path e p) (value scope statement more levels path e p) }
 {}
 
 /// The same of the number that an expression stands for.
 pub fn full_values_stay()
-    ensures { (setting : Setting) (statement : ℕ) (known more : Known) → IsPart known more → (levels : ℕ) (path : List Name) (e : Expression) (p : Point)
-        → Stays (full setting statement known levels path e p) (full setting statement more levels path e p) }
+    ensures { (scope : Scope) (statement : ℕ) (known more : Known) → IsPart known more → (levels : ℕ) (path : List Name) (e : Expression) (p : Point)
+        → Stays (full scope statement known levels path e p) (full scope statement more levels path e p) }
 {}

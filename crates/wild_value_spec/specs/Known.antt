@@ -3,34 +3,34 @@ use Rattle.std.specs.Option.{unwrap_or}
 use Rattle.std.specs.Prelude.{◌≡◌, ℕ, ◌==◌, Bool, false, Option, Some, None, if◌then◌else◌}
 
 -- the start, the load address or the end of a section, the address of a row, or the location counter at a place
-pub data Entry : Type 0 where
-  Start : ℕ → Entry
-  Load : ℕ → Entry
-  End : ℕ → Entry
-  Address : ℕ → Entry
-  Dot : ℕ → Entry
+pub data Asked : Type 0 where
+  Start : ℕ → Asked
+  Load : ℕ → Asked
+  End : ℕ → Asked
+  Address : ℕ → Asked
+  Dot : ℕ → Asked
 
 abbrev pub Known : Type 0
-Known = Entry → Option ℕ
+Known = Asked → Option ℕ
 
 abbrev pub nothing : Known
 nothing x = None
 
 -- the number that is known, or else 0
-abbrev pub number_at : Known → Entry → ℕ
+abbrev pub number_at : Known → Asked → ℕ
 number_at known x = unwrap_or (known x) 0
 
 -- one is a part of the other
 abbrev pub IsPart : Known → Known → Type 0
-IsPart some more = (x : Entry) (n : ℕ) → some x ≡ Some n → more x ≡ Some n
+IsPart some more = (x : Asked) (n : ℕ) → some x ≡ Some n → more x ≡ Some n
 
-abbrev pub same_entry : Entry → Entry → Bool
-same_entry (Start a) (Start b) = a == b
-same_entry (Load a) (Load b) = a == b
-same_entry (End a) (End b) = a == b
-same_entry (Address a) (Address b) = a == b
-same_entry (Dot a) (Dot b) = a == b
-same_entry x y = false
+abbrev pub same_asked : Asked → Asked → Bool
+same_asked (Start a) (Start b) = a == b
+same_asked (Load a) (Load b) = a == b
+same_asked (End a) (End b) = a == b
+same_asked (Address a) (Address b) = a == b
+same_asked (Dot a) (Dot b) = a == b
+same_asked x y = false
 
 -- what is there, or else the other
 abbrev pub or_else : Option ℕ → Option ℕ → Option ℕ
@@ -38,5 +38,5 @@ or_else (Some n) o = Some n
 or_else None o = o
 
 -- one more entry, where none is known yet
-unfoldable pub with_entry : Entry → ℕ → Known → Known
-with_entry x n known = λ y. or_else (known y) (if same_entry x y then Some n else None)
+unfoldable pub with_number : Asked → ℕ → Known → Known
+with_number x n known = λ y. or_else (known y) (if same_asked x y then Some n else None)

@@ -2,5 +2,5 @@ pub mod Answer
 pub mod Known
 pub mod Marks
 pub mod Numbers
-pub mod Setting
+pub mod Scope
 pub mod Value

@@ -13,17 +13,17 @@ use Rattle.wild_value_spec.specs.declared.operator.Unary.{Unary}
 use Rattle.wild_value_spec.specs.declared.operator.Unary.TheVariants.{LogicalNot, BitwiseNot, Negate}
 
 -- sums, differences and products wrap; a shift is by the right side modulo 64, and drops what it moves out
-unfoldable pub applied : Arithmetic → ℕ → ℕ → ℕ
-applied Add x y = (x + y) % 2 ^ 64
-applied Subtract x y = (x + (2 ^ 64 - y)) % 2 ^ 64
-applied Multiply x y = (x * y) % 2 ^ 64
-applied BitwiseAnd x y = bit_and x y
-applied BitwiseOr x y = bit_or x y
-applied BitwiseXor x y = bit_xor x y
-applied LeftShift x y = (x * 2 ^ (y % 64)) % 2 ^ 64
-applied RightShift x y = x / 2 ^ (y % 64)
-applied Min x y = min x y
-applied Max x y = max x y
+unfoldable pub arithmetic_result : Arithmetic → ℕ → ℕ → ℕ
+arithmetic_result Add x y = (x + y) % 2 ^ 64
+arithmetic_result Subtract x y = (x + (2 ^ 64 - y)) % 2 ^ 64
+arithmetic_result Multiply x y = (x * y) % 2 ^ 64
+arithmetic_result BitwiseAnd x y = bit_and x y
+arithmetic_result BitwiseOr x y = bit_or x y
+arithmetic_result BitwiseXor x y = bit_xor x y
+arithmetic_result LeftShift x y = (x * 2 ^ (y % 64)) % 2 ^ 64
+arithmetic_result RightShift x y = x / 2 ^ (y % 64)
+arithmetic_result Min x y = min x y
+arithmetic_result Max x y = max x y
 
 -- both sides read as signed numbers, the bits of the quotient toward zero; that of the least number and -1 would be
 -- 2 ^ 63, whose bits are those of the least number
@@ -62,14 +62,14 @@ decides LogicalAnd x = not (is_true x)
 decides LogicalOr x = is_true x
 
 -- what gives 0 with this number, wrapping
-abbrev pub negated : ℕ → ℕ
-negated x = (2 ^ 64 - x) % 2 ^ 64
+abbrev pub negation : ℕ → ℕ
+negation x = (2 ^ 64 - x) % 2 ^ 64
 
 -- the other bits
-abbrev pub inverted : ℕ → ℕ
-inverted x = 2 ^ 64 - 1 - x
+abbrev pub complement : ℕ → ℕ
+complement x = 2 ^ 64 - 1 - x
 
-unfoldable pub changed : Unary → ℕ → ℕ
-changed LogicalNot x = truth (not (is_true x))
-changed BitwiseNot x = inverted x
-changed Negate x = negated x
+unfoldable pub unary_result : Unary → ℕ → ℕ
+unary_result LogicalNot x = truth (not (is_true x))
+unary_result BitwiseNot x = complement x
+unary_result Negate x = negation x

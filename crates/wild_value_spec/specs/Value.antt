@@ -24,8 +24,8 @@ use Rattle.wild_value_spec.specs.declared.value.Value.{Value}
 use Rattle.wild_value_spec.specs.Answer.{◌>>=◌, or_fault}
 use Rattle.wild_value_spec.specs.Known.{Known, Start, Load, End, Address, Dot}
 use Rattle.wild_value_spec.specs.Marks.{bare, unmarked, absolutely, relatively, absolutely_over, relatively_over, over, over_both, unmarked_over}
-use Rattle.wild_value_spec.specs.Numbers.{applied, divided_by, holds, decides, changed, truth, is_true}
-use Rattle.wild_value_spec.specs.Setting.{Name, Layer, Definition, OfRow, OfScript, Setting}
+use Rattle.wild_value_spec.specs.Numbers.{arithmetic_result, divided_by, holds, decides, unary_result, truth, is_true}
+use Rattle.wild_value_spec.specs.Scope.{Name, Layer, Definition, OfRow, OfScript, Scope}
 
 -- ---- faults and choices
 
@@ -35,8 +35,8 @@ zero_divisor division.Divide statement = DivisionByZero statement
 zero_divisor division.Modulo statement = ModuloByZero statement
 
 -- the side that a condition chooses: the first where it is true
-unfoldable pub chosen : ℕ → Expression → Expression → Expression
-chosen condition a b = if condition == 0 then b else a
+unfoldable pub chosen_side : ℕ → Expression → Expression → Expression
+chosen_side condition a b = if condition == 0 then b else a
 
 -- whether a name is on a path: the symbols that are being evaluated
 abbrev pub is_on : Name → List Name → Bool
@@ -54,10 +54,10 @@ multiple_from x align =
     if nat_lt (rounded_up align x) (2 ^ 64) then Ok (rounded_up align x) else Err (AlignOverflow x align)
 
 -- the next multiple of an alignment from a value on
-unfoldable pub raised : Value → Value → Result Value Fault
-raised align x = multiple_from x.number align.number >>= (λ n. Ok (over_both n align x))
+unfoldable pub multiple_value : Value → Value → Result Value Fault
+multiple_value align x = multiple_from x.number align.number >>= (λ n. Ok (over_both n align x))
 
-module _ (setting : Setting) (statement : ℕ) (known : Known) where
+module _ (scope : Scope) (statement : ℕ) (known : Known) where
   -- ---- what is known
 
   -- the location counter of a place
@@ -66,13 +66,13 @@ module _ (setting : Setting) (statement : ℕ) (known : Known) where
 
   -- the start, the load address and the end of a section
   unfoldable pub start_of : ℕ → Result ℕ Fault
-  start_of s = or_fault (known (Start s)) (NotLaidOut statement (setting.section_name s))
+  start_of s = or_fault (known (Start s)) (NotLaidOut statement (scope.section_name s))
 
   unfoldable pub load_of : ℕ → Result ℕ Fault
-  load_of s = or_fault (known (Load s)) (NotLaidOut statement (setting.section_name s))
+  load_of s = or_fault (known (Load s)) (NotLaidOut statement (scope.section_name s))
 
   unfoldable pub end_of : ℕ → Result ℕ Fault
-  end_of s = or_fault (known (End s)) (NotLaidOut statement (setting.section_name s))
+  end_of s = or_fault (known (End s)) (NotLaidOut statement (scope.section_name s))
 
   -- the address of the row of a symbol
   unfoldable pub row_of : Name → ℕ → Result ℕ Fault
@@ -81,19 +81,19 @@ module _ (setting : Setting) (statement : ℕ) (known : Known) where
   -- ---- full values
 
   -- inside a section, the section's start is added where the number counts from there or is not known to be an address
-  abbrev pub based_in : Option ℕ → Value → Result ℕ Fault
-  based_in None x = Ok x.number
-  based_in (Some s) x =
+  abbrev pub full_number_in : Option ℕ → Value → Result ℕ Fault
+  full_number_in None x = Ok x.number
+  full_number_in (Some s) x =
       if x.relative || not x.absolute then start_of s >>= (λ start. sum_of x.number start) else Ok x.number
 
-  unfoldable pub based : Point → Value → Result ℕ Fault
-  based p x = based_in p.«section» x
+  unfoldable pub full_number : Point → Value → Result ℕ Fault
+  full_number p x = full_number_in p.«section» x
 
   -- ---- steps
 
   -- a comparison, of which the left side is known with its full value
-  unfoldable pub judged : Comparison → Point → ℕ → Value → Value → Result Value Fault
-  judged o p left x y = based p y >>= (λ right. Ok (unmarked_over (truth (holds o left right)) x y))
+  unfoldable pub judgement : Comparison → Point → ℕ → Value → Value → Result Value Fault
+  judgement o p left x y = full_number p y >>= (λ right. Ok (unmarked_over (truth (holds o left right)) x y))
 
   -- `.`, the location counter, which inside a section counts from the section's start
   abbrev pub counter_in : Option ℕ → ℕ → Result Value Fault
@@ -119,15 +119,15 @@ module _ (setting : Setting) (statement : ℕ) (known : Known) where
   size_in (Some s) = extent s
 
   unfoldable pub size : Name → Result Value Fault
-  size name = size_in (setting.«section» name)
+  size name = size_in (scope.«section» name)
 
   -- in bytes; 0 where no section has the name
   abbrev pub alignment_in : Option ℕ → Value
   alignment_in None = unmarked 0
-  alignment_in (Some s) = unmarked (2 ^ setting.alignment s)
+  alignment_in (Some s) = unmarked (2 ^ scope.alignment s)
 
   unfoldable pub alignment : Name → Value
-  alignment name = alignment_in (setting.«section» name)
+  alignment name = alignment_in (scope.«section» name)
 
   -- an address of a section that must be there
   abbrev pub address_in : (ℕ → Result ℕ Fault) → Name → Option ℕ → Result Value Fault
@@ -135,16 +135,16 @@ module _ (setting : Setting) (statement : ℕ) (known : Known) where
   address_in of name (Some s) = of s >>= (λ n. Ok (absolutely n))
 
   unfoldable pub start_named : Name → Result Value Fault
-  start_named name = address_in start_of name (setting.«section» name)
+  start_named name = address_in start_of name (scope.«section» name)
 
   unfoldable pub load_named : Name → Result Value Fault
-  load_named name = address_in load_of name (setting.«section» name)
+  load_named name = address_in load_of name (scope.«section» name)
 
   -- ---- symbols
 
   -- 1 where the name has a definition
-  unfoldable pub defined : Name → Value
-  defined name = unmarked (truth (is_some (setting.definition name)))
+  unfoldable pub defined_value : Name → Value
+  defined_value name = unmarked (truth (is_some (scope.definition name)))
 
   -- an address counted from the start of its section, of parts of this height
   unfoldable pub from_start : Name → ℕ → ℕ → ℕ → Result Value Fault
@@ -152,20 +152,20 @@ module _ (setting : Setting) (statement : ℕ) (known : Known) where
       if nat_lt address start then Err (BeforeSection name) else Ok (relatively_over (address - start) height)
 
   -- an address in a section, as it is read in a section: from the start where they are the same
-  abbrev pub used_in : Name → ℕ → ℕ → Option ℕ → Option ℕ → Result Value Fault
-  used_in name address height (Some s) (Some t) =
+  abbrev pub symbol_value_in : Name → ℕ → ℕ → Option ℕ → Option ℕ → Result Value Fault
+  symbol_value_in name address height (Some s) (Some t) =
       if s == t then start_of s >>= from_start name address height else Ok (absolutely_over address height)
-  used_in name address height (Some s) None = Ok (absolutely_over address height)
-  used_in name address height None t = Ok (absolutely_over address height)
+  symbol_value_in name address height (Some s) None = Ok (absolutely_over address height)
+  symbol_value_in name address height None t = Ok (absolutely_over address height)
 
   -- the address of a symbol of that section, as it is read at a point
-  unfoldable pub used : Name → Option ℕ → Point → ℕ → ℕ → Result Value Fault
-  used name of p address height = used_in name address height of p.«section»
+  unfoldable pub symbol_value : Name → Option ℕ → Point → ℕ → ℕ → Result Value Fault
+  symbol_value name of p address height = symbol_value_in name address height of p.«section»
 
   -- a symbol of the table: so far behind the start of its row
   unfoldable pub table_symbol : Name → ℕ → ℕ → ℕ → Point → Result Value Fault
   table_symbol name row offset s p =
-      row_of name row >>= (λ start. sum_of start offset >>= (λ address. used name (Some s) p address 0))
+      row_of name row >>= (λ start. sum_of start offset >>= (λ address. symbol_value name (Some s) p address 0))
 
   -- ---- the kinds of nodes, over their parts, whose values `eval` gives on a path
   module _ (eval : List Name → Expression → Point → Result Value Fault) (path : List Name) where
@@ -173,35 +173,35 @@ module _ (setting : Setting) (statement : ℕ) (known : Known) where
     part = eval path
 
     -- both sides, the left one first
-    unfoldable pub calculated : Arithmetic → Expression → Expression → Point → Result Value Fault
-    calculated o a b p =
-        part a p >>= (λ x. part b p >>= (λ y. Ok (over_both (applied o x.number y.number) x y)))
+    unfoldable pub arithmetic_value : Arithmetic → Expression → Expression → Point → Result Value Fault
+    arithmetic_value o a b p =
+        part a p >>= (λ x. part b p >>= (λ y. Ok (over_both (arithmetic_result o x.number y.number) x y)))
 
     -- the divisor first, which must not be 0
-    unfoldable pub divided : Division → Expression → Expression → Point → Result Value Fault
-    divided o a b p =
+    unfoldable pub division_value : Division → Expression → Expression → Point → Result Value Fault
+    division_value o a b p =
         part b p >>= (λ y.
         if y.number == 0 then Err (zero_divisor o statement) else
         (part a p >>= (λ x. Ok (over_both (divided_by o x.number y.number) x y))))
 
     -- the full values of both sides, the left one first; they keep their marks
-    unfoldable pub compared : Comparison → Expression → Expression → Point → Result Value Fault
-    compared o a b p =
-        part a p >>= (λ x. based p x >>= (λ left. part b p >>= (λ y. judged o p left x y)))
+    unfoldable pub comparison_value : Comparison → Expression → Expression → Point → Result Value Fault
+    comparison_value o a b p =
+        part a p >>= (λ x. full_number p x >>= (λ left. part b p >>= (λ y. judgement o p left x y)))
 
     -- the truth of the left side where that decides, else that of the right one
-    unfoldable pub connected : Connective → Expression → Expression → Point → Result Value Fault
-    connected o a b p =
+    unfoldable pub connective_value : Connective → Expression → Expression → Point → Result Value Fault
+    connective_value o a b p =
         part a p >>= (λ x.
         if decides o x.number then Ok (over (truth (is_true x.number)) x) else
         (part b p >>= (λ y. Ok (over_both (truth (is_true y.number)) x y))))
 
-    unfoldable pub turned : Unary → Expression → Point → Result Value Fault
-    turned o a p = part a p >>= (λ x. Ok (over (changed o x.number) x))
+    unfoldable pub unary_value : Unary → Expression → Point → Result Value Fault
+    unary_value o a p = part a p >>= (λ x. Ok (over (unary_result o x.number) x))
 
     -- the condition, and then the chosen side only
-    unfoldable pub choice : Expression → Expression → Expression → Point → Result Value Fault
-    choice c a b p = part c p >>= (λ x. part (chosen x.number a b) p >>= (λ y. Ok (over_both y.number x y)))
+    unfoldable pub ternary_value : Expression → Expression → Expression → Point → Result Value Fault
+    ternary_value c a b p = part c p >>= (λ x. part (chosen_side x.number a b) p >>= (λ y. Ok (over_both y.number x y)))
 
     -- what is aligned: an expression, or else the location counter
     abbrev pub subject : Option Expression → Point → Result Value Fault
@@ -209,15 +209,15 @@ module _ (setting : Setting) (statement : ℕ) (known : Known) where
     subject None p = counter_number p
 
     -- the alignment first, which must not be 0; then the next multiple of it from what is aligned on
-    unfoldable pub aligned : Expression → Option Expression → Point → Result Value Fault
-    aligned n a p =
+    unfoldable pub align_value : Expression → Option Expression → Point → Result Value Fault
+    align_value n a p =
         part n p >>= (λ align.
-        if align.number == 0 then Err (AlignZero statement) else (subject a p >>= (λ x. raised align x)))
+        if align.number == 0 then Err (AlignZero statement) else (subject a p >>= (λ x. multiple_value align x)))
 
     -- a symbol of the script: the full value of its expression at its own point, with it on the path
     unfoldable pub script_symbol : Name → Expression → Point → Point → Result Value Fault
     script_symbol name e q p =
-        eval (name ∷ path) e q >>= (λ x. based q x >>= (λ address. used name q.«section» p address x.height))
+        eval (name ∷ path) e q >>= (λ x. full_number q x >>= (λ address. symbol_value name q.«section» p address x.height))
 
     abbrev pub symbol_by : Name → Definition → Point → Result Value Fault
     symbol_by name (OfRow row offset s) p = table_symbol name row offset s p
@@ -229,49 +229,49 @@ module _ (setting : Setting) (statement : ℕ) (known : Known) where
     symbol_in name (Some d) p = if is_on name path then Err (SymbolCycle name) else symbol_by name d p
 
     unfoldable pub symbol : Name → Point → Result Value Fault
-    symbol name p = symbol_in name (setting.definition name) p
+    symbol name p = symbol_in name (scope.definition name) p
 
     -- a condition, which must not be 0
-    unfoldable pub asserted : AssertCommand → Point → Result Value Fault
-    asserted command p =
+    unfoldable pub assert_value : AssertCommand → Point → Result Value Fault
+    assert_value command p =
         part command.expression p >>= (λ x.
-        if x.number == 0 then Err (AssertFailed (setting.line command.at) command.message) else Ok (over x.number x))
+        if x.number == 0 then Err (AssertFailed (scope.line command.at) command.message) else Ok (over x.number x))
 
     abbrev pub node : Point → Layer → Result Value Fault
     node p (Expression-F.Number n) = Ok (unmarked n)
     node p Expression-F.LocationCounter = counter p
-    node p (Expression-F.Add a b) = calculated arithmetic.Add a b p
-    node p (Expression-F.Subtract a b) = calculated arithmetic.Subtract a b p
-    node p (Expression-F.Multiply a b) = calculated arithmetic.Multiply a b p
-    node p (Expression-F.BitwiseAnd a b) = calculated arithmetic.BitwiseAnd a b p
-    node p (Expression-F.BitwiseOr a b) = calculated arithmetic.BitwiseOr a b p
-    node p (Expression-F.BitwiseXor a b) = calculated arithmetic.BitwiseXor a b p
-    node p (Expression-F.LeftShift a b) = calculated arithmetic.LeftShift a b p
-    node p (Expression-F.RightShift a b) = calculated arithmetic.RightShift a b p
-    node p (Expression-F.Min a b) = calculated arithmetic.Min a b p
-    node p (Expression-F.Max a b) = calculated arithmetic.Max a b p
-    node p (Expression-F.Divide a b) = divided division.Divide a b p
-    node p (Expression-F.Modulo a b) = divided division.Modulo a b p
-    node p (Expression-F.LessEqual a b) = compared comparison.LessEqual a b p
-    node p (Expression-F.GreaterEqual a b) = compared comparison.GreaterEqual a b p
-    node p (Expression-F.Equal a b) = compared comparison.Equal a b p
-    node p (Expression-F.NotEqual a b) = compared comparison.NotEqual a b p
-    node p (Expression-F.LessThan a b) = compared comparison.LessThan a b p
-    node p (Expression-F.GreaterThan a b) = compared comparison.GreaterThan a b p
-    node p (Expression-F.LogicalAnd a b) = connected connective.LogicalAnd a b p
-    node p (Expression-F.LogicalOr a b) = connected connective.LogicalOr a b p
-    node p (Expression-F.LogicalNot a) = turned unary.LogicalNot a p
-    node p (Expression-F.BitwiseNot a) = turned unary.BitwiseNot a p
-    node p (Expression-F.Negate a) = turned unary.Negate a p
-    node p (Expression-F.Ternary c a b) = choice c a b p
-    node p (Expression-F.Align n a) = aligned n a p
+    node p (Expression-F.Add a b) = arithmetic_value arithmetic.Add a b p
+    node p (Expression-F.Subtract a b) = arithmetic_value arithmetic.Subtract a b p
+    node p (Expression-F.Multiply a b) = arithmetic_value arithmetic.Multiply a b p
+    node p (Expression-F.BitwiseAnd a b) = arithmetic_value arithmetic.BitwiseAnd a b p
+    node p (Expression-F.BitwiseOr a b) = arithmetic_value arithmetic.BitwiseOr a b p
+    node p (Expression-F.BitwiseXor a b) = arithmetic_value arithmetic.BitwiseXor a b p
+    node p (Expression-F.LeftShift a b) = arithmetic_value arithmetic.LeftShift a b p
+    node p (Expression-F.RightShift a b) = arithmetic_value arithmetic.RightShift a b p
+    node p (Expression-F.Min a b) = arithmetic_value arithmetic.Min a b p
+    node p (Expression-F.Max a b) = arithmetic_value arithmetic.Max a b p
+    node p (Expression-F.Divide a b) = division_value division.Divide a b p
+    node p (Expression-F.Modulo a b) = division_value division.Modulo a b p
+    node p (Expression-F.LessEqual a b) = comparison_value comparison.LessEqual a b p
+    node p (Expression-F.GreaterEqual a b) = comparison_value comparison.GreaterEqual a b p
+    node p (Expression-F.Equal a b) = comparison_value comparison.Equal a b p
+    node p (Expression-F.NotEqual a b) = comparison_value comparison.NotEqual a b p
+    node p (Expression-F.LessThan a b) = comparison_value comparison.LessThan a b p
+    node p (Expression-F.GreaterThan a b) = comparison_value comparison.GreaterThan a b p
+    node p (Expression-F.LogicalAnd a b) = connective_value connective.LogicalAnd a b p
+    node p (Expression-F.LogicalOr a b) = connective_value connective.LogicalOr a b p
+    node p (Expression-F.LogicalNot a) = unary_value unary.LogicalNot a p
+    node p (Expression-F.BitwiseNot a) = unary_value unary.BitwiseNot a p
+    node p (Expression-F.Negate a) = unary_value unary.Negate a p
+    node p (Expression-F.Ternary c a b) = ternary_value c a b p
+    node p (Expression-F.Align n a) = align_value n a p
     node p (Expression-F.Symbol name) = symbol name p
     node p (Expression-F.Sizeof name) = size name
     node p (Expression-F.Alignof name) = Ok (alignment name)
     node p (Expression-F.Addr name) = start_named name
     node p (Expression-F.Loadaddr name) = load_named name
-    node p (Expression-F.Defined name) = Ok (defined name)
-    node p (Expression-F.Assert command) = asserted command p
+    node p (Expression-F.Defined name) = Ok (defined_value name)
+    node p (Expression-F.Assert command) = assert_value command p
     node p e = Err (Unsupported statement)
 
   -- the value of an expression at a point, where this many levels are left
@@ -281,8 +281,8 @@ module _ (setting : Setting) (statement : ℕ) (known : Known) where
 
   -- the number that it stands for
   unfoldable pub full : ℕ → List Name → Expression → Point → Result ℕ Fault
-  full h path e p = value h path e p >>= based p
+  full h path e p = value h path e p >>= full_number p
 
   -- what an ASSERT statement is worth: it is a node over its condition, so that one level is taken
-  unfoldable pub tested : AssertCommand → Point → Result Value Fault
-  tested command p = asserted (value 1023) [] command p
+  unfoldable pub assert_statement : AssertCommand → Point → Result Value Fault
+  assert_statement command p = assert_value (value 1023) [] command p

@@ -1,4 +1,4 @@
-use Rattle.wild_expression.proofs.Places.{one_expression, no_expression}
+use Rattle.wild_expression.proofs.Positions.{one_expression, no_expression}
 use Rattle.wild_expression.proofs.readings.parse_expression.Goals as goal
 
 pub returns-in-Ok-clause-found : goal.returns-in-Ok-clause-found

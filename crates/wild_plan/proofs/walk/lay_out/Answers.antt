@@ -1,7 +1,7 @@
 use Rattle.std.proofs.Common.{◌≡◌, length, Some, sym, subst, ap, ◌∙◌, inl, inr, ⊎_elim, arith}
 use Rattle.std.proofs.lemmas.Option.{slice_get-get_or}
 use Rattle.std.proofs.lemmas.Result.{err_from_is_err_and}
-use Rattle.wild_eval.specs.Setting.{setting_of}
+use Rattle.wild_eval.specs.Scope.{scope_of}
 use Rattle.wild_plan_spec.specs.Walk.{Stands}
 use Rattle.wild_plan.specs.Chunks.{rows_at}
 use Rattle.wild_fates.specs.Shown.{shown}
@@ -12,7 +12,7 @@ use Rattle.wild_plan.proofs.walk.lay_out.Goals as goal
 pub loop-number-init : goal.loop-number-init
 loop-number-init c =
     let given = c.args.given.now in
-    subst (λ s. Stands (setting_of given.names.now) (rows_at given.chunks.now) (shown c.args.places.now) 0 s) (sym c.new-walk.ensures) (stands_first _ _ _)
+    subst (λ s. Stands (scope_of given.scope.now) (rows_at given.chunks.now) (shown c.args.places.now) 0 s) (sym c.new-walk.ensures) (stands_first _ _ _)
 
 pub loop-number-preserved : goal.loop-number-preserved
 loop-number-preserved c =

@@ -1,4 +1,4 @@
-use Rattle.wild_reading.specs.Place.{ahead}
+use Rattle.wild_reading.specs.Position.{ahead}
 use Rattle.wild_reading.specs.Bytes.{begins}
 use Rattle.wild_reading.proofs.Readers.{Continues}
 use Rattle.wild_reading.proofs.many.read_until.Given as goal

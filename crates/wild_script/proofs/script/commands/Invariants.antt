@@ -1,4 +1,4 @@
-use Rattle.wild_reading.specs.Place.{ahead}
+use Rattle.wild_reading.specs.Position.{ahead}
 use Rattle.wild_reading.specs.Bytes.{is_end}
 use Rattle.wild_reading.proofs.Readers.{Continues}
 use Rattle.wild_script.specs.Outermost.{command}

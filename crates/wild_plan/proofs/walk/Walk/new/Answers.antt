@@ -1,7 +1,7 @@
 use Rattle.std.proofs.Common.{List, ap, ◌∙◌}
 use Rattle.wild_value_spec.specs.Known.{Known}
 use Rattle.wild_plan_spec.specs.declared.placed.PlacedLocation.{PlacedLocation}
-use Rattle.wild_plan_spec.specs.Line.{State}
+use Rattle.wild_plan_spec.specs.Steps.{State}
 use Rattle.wild_plan.proofs.walk.Walk.new.Goals as goal
 
 abbrev with_known : List PlacedLocation → Known → State

@@ -1,4 +1,4 @@
-use Rattle.wild_plan_spec.specs.Line.{row_placed}
+use Rattle.wild_plan_spec.specs.Steps.{row_placed}
 use Rattle.wild_plan.proofs.walk.Walk.place_row.Goals as goal
 
 pub returns : goal.returns

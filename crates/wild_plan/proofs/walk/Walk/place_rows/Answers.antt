@@ -1,7 +1,7 @@
 use Rattle.std.proofs.Common.{◌+◌, ◌∷◌, ◌∙◌, sym, drop, ap}
 use Rattle.std.proofs.lemmas.List.{at_drop_more}
 use Rattle.wild_value_spec.specs.Answer.{◌>>=◌}
-use Rattle.wild_plan_spec.specs.Line.{rows_placed}
+use Rattle.wild_plan_spec.specs.Steps.{rows_placed}
 use Rattle.wild_plan.specs.Moves.{state_of}
 use Rattle.wild_plan.proofs.walk.Walk.place_rows.Goals as goal
 

@@ -1,5 +1,5 @@
 use Rattle.std.proofs.Common.{◌≡◌, drop}
-use Rattle.wild_plan_spec.specs.Line.{rows_placed}
+use Rattle.wild_plan_spec.specs.Steps.{rows_placed}
 use Rattle.wild_plan.specs.Moves.{state_of}
 use Rattle.wild_plan.proofs.walk.Walk.place_rows.Given as goal
 

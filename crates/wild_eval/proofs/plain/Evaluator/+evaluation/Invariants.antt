@@ -1,0 +1,44 @@
+use Rattle.std.proofs.Common.{◌+◌, ◌*◌}
+use Rattle.wild_eval.proofs.plain.Evaluator.+evaluation.Given as goal
+
+abbrev pub decreases-value : goal.decreases-value
+decreases-value l = 8 * l.levels
+
+abbrev pub decreases-node : goal.decreases-node
+decreases-node l = 8 * l.levels + 7
+
+abbrev pub decreases-arithmetic_value : goal.decreases-arithmetic_value
+decreases-arithmetic_value l = 8 * l.levels + 6
+
+abbrev pub decreases-division_value : goal.decreases-division_value
+decreases-division_value l = 8 * l.levels + 6
+
+abbrev pub decreases-comparison_value : goal.decreases-comparison_value
+decreases-comparison_value l = 8 * l.levels + 6
+
+abbrev pub decreases-connective_value : goal.decreases-connective_value
+decreases-connective_value l = 8 * l.levels + 6
+
+abbrev pub decreases-unary_value : goal.decreases-unary_value
+decreases-unary_value l = 8 * l.levels + 6
+
+abbrev pub decreases-ternary_value : goal.decreases-ternary_value
+decreases-ternary_value l = 8 * l.levels + 6
+
+abbrev pub decreases-align_value : goal.decreases-align_value
+decreases-align_value l = 8 * l.levels + 6
+
+abbrev pub decreases-subject : goal.decreases-subject
+decreases-subject l = 8 * l.levels + 5
+
+abbrev pub decreases-symbol : goal.decreases-symbol
+decreases-symbol l = 8 * l.levels + 6
+
+abbrev pub decreases-symbol_by : goal.decreases-symbol_by
+decreases-symbol_by l = 8 * l.levels + 5
+
+abbrev pub decreases-script_symbol : goal.decreases-script_symbol
+decreases-script_symbol l = 8 * l.levels + 4
+
+abbrev pub decreases-assert_value : goal.decreases-assert_value
+decreases-assert_value l = 8 * l.levels + 6

@@ -1,6 +1,0 @@
-use Rattle.std.proofs.lemmas.Result.{on_ok_weaker}
-use Rattle.wild_eval.proofs.Entries.{with_dot}
-use Rattle.wild_eval.proofs.table.Table.learn_dot.Goals as goal
-
-pub returns : goal.returns
-returns c = on_ok_weaker _ (with_dot c.args.self.now c.learn.new.known c.args.place c.args.number) c.learn.ensures

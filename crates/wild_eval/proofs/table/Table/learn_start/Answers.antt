@@ -1,6 +1,0 @@
-use Rattle.std.proofs.lemmas.Result.{on_ok_weaker}
-use Rattle.wild_eval.proofs.Entries.{with_start}
-use Rattle.wild_eval.proofs.table.Table.learn_start.Goals as goal
-
-pub returns : goal.returns
-returns c = on_ok_weaker _ (with_start c.args.self.now c.learn.new.known c.args.«section» c.args.number) c.learn.ensures

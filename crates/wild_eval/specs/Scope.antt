@@ -1,0 +1,46 @@
+-- What a script and its table say of sections and symbols, and the symbols that are being evaluated.
+use Rattle.std.specs.Prelude.{ℕ, List, [], ◌∷◌, Option, Some, None, slice_get}
+use Rattle.std.specs.Option.{option_map, unwrap_or}
+use denote.Ref.{Bor}
+use Rattle.wild_numbering.specs.Numbering.{number_of}
+use Rattle.wild_eval.specs.declared.scope.Definition.{Definition}
+use Rattle.wild_eval.specs.declared.scope.Definition.TheVariants as kept
+use Rattle.wild_eval.specs.declared.scope.SymbolEntry.{SymbolEntry}
+use Rattle.wild_eval.specs.declared.scope.Scope.{Scope}
+use Rattle.wild_eval.specs.declared.scope.Path.{Path}
+use Rattle.wild_eval.specs.declared.scope.Path.TheVariants.{Start, Through'}
+use Rattle.wild_value_spec.specs.Scope.{Name, Scope, OfRow, OfScript, line_of}
+use Rattle.wild_value_spec.specs.Scope as meaning
+
+-- a definition without how it is kept
+abbrev pub shown_definition : Definition → meaning.Definition
+shown_definition (kept.OfRow row offset s) = OfRow row offset s
+shown_definition (kept.OfScript value point) = OfScript value.now point
+
+-- the definition of the entry at an index
+abbrev pub entry_at : ℕ → List SymbolEntry → Option meaning.Definition
+entry_at i entries = option_map (λ e. shown_definition e.definition) (slice_get entries i)
+
+abbrev pub defined_at : Option ℕ → List SymbolEntry → Option meaning.Definition
+defined_at None entries = None
+defined_at (Some i) entries = entry_at i entries
+
+-- the name, or the empty one where there is none
+abbrev pub or_empty : Option (Bor Name) → Name
+or_empty (Some name) = name.now
+or_empty None = []
+
+-- sections by their index, and symbols by the index of their name
+abbrev pub scope_of : Scope → Scope
+scope_of scope = record {
+  section_name = λ s. or_empty (slice_get scope.sections.now s);
+  «section» = λ x. number_of x scope.section_numbers.now;
+  alignment = λ s. unwrap_or (slice_get scope.alignments.now s) 0;
+  definition = λ x. defined_at (number_of x scope.symbols.now) scope.entries.now;
+  line = λ i. line_of scope.script.now i;
+}
+
+-- the names on a path, the last one first
+abbrev pub path_of : Path → List Name
+path_of Start = []
+path_of (Through' name at rest) = name.now ∷ path_of rest

@@ -1,0 +1,159 @@
+//! What is known of a layout.
+
+ghost use Rattle.std.specs.Prelude.{◌≡◌, ◌==◌, ℕ, Some, None, OnOk, if◌then◌else◌};
+ghost use Rattle.std.specs.Option.{unwrap_or};
+ghost use Rattle.wild_value_spec.specs.Known.{Start, Load, End, Address, Dot, nothing, number_at, or_else, with_number};
+ghost use Rattle.wild_eval.specs.Addresses.{known_at, known_of};
+
+use std::alloc::{AllocError, Global};
+use std::collections::BTreeMap;
+
+/// Numbers by the index of a section or a row.
+pub type Numbers = BTreeMap<usize, u64>;
+
+/// What is known of a layout.
+#[derive(Drop)]
+pub struct Addresses {
+    pub starts: Numbers,
+    pub loads: Numbers,
+    pub ends: Numbers,
+    pub addresses: Numbers,
+    /// The location counter at each place.
+    pub dots: Numbers,
+}
+
+fn number(known: &Numbers, index: usize) -> Option<u64>
+    ensures { result ≡ known_at known.now index }
+{
+    known.get(&index).copied()
+}
+
+/// The number at an index, or 0 where none is known.
+fn number_or_zero(known: &Numbers, index: usize) -> u64
+    ensures { result ≡ unwrap_or (known_at known.now index) 0 }
+{
+    number(known, index).unwrap_or(0)
+}
+
+/// Keeps a number, unless one is known there.
+fn learn(known: &mut Numbers, index: usize, number: u64) -> Result<(), AllocError>
+    ensures { OnOk result ((i : ℕ) → known_at known.new i ≡ or_else (known_at known.old i) (if index == i then Some number else None)) }
+{
+    if !known.contains_key(&index) {
+        known.insert(index, number)?;
+    }
+    Ok(())
+}
+
+impl Addresses {
+    /// A table that knows nothing.
+    pub fn new(alloc: Global) -> Addresses
+        ensures { known_of result ≡ nothing }
+    {
+        Addresses {
+            starts: BTreeMap::new(alloc),
+            loads: BTreeMap::new(alloc),
+            ends: BTreeMap::new(alloc),
+            addresses: BTreeMap::new(alloc),
+            dots: BTreeMap::new(alloc),
+        }
+    }
+
+    /// Keeps the start of a section, unless it is known.
+    pub fn learn_start(&mut self, section: usize, number: u64) -> Result<(), AllocError>
+        ensures { OnOk result (known_of self.new ≡ with_number (Start section) number (known_of self.old)) }
+    {
+        learn(&mut self.starts, section, number)
+    }
+
+    /// Keeps the load address of a section, unless it is known.
+    pub fn learn_load(&mut self, section: usize, number: u64) -> Result<(), AllocError>
+        ensures { OnOk result (known_of self.new ≡ with_number (Load section) number (known_of self.old)) }
+    {
+        learn(&mut self.loads, section, number)
+    }
+
+    /// Keeps the end of a section, unless it is known.
+    pub fn learn_end(&mut self, section: usize, number: u64) -> Result<(), AllocError>
+        ensures { OnOk result (known_of self.new ≡ with_number (End section) number (known_of self.old)) }
+    {
+        learn(&mut self.ends, section, number)
+    }
+
+    /// Keeps the address of a row, unless it is known.
+    pub fn learn_address(&mut self, row: usize, number: u64) -> Result<(), AllocError>
+        ensures { OnOk result (known_of self.new ≡ with_number (Address row) number (known_of self.old)) }
+    {
+        learn(&mut self.addresses, row, number)
+    }
+
+    /// Keeps the location counter at a place, unless it is known.
+    pub fn learn_dot(&mut self, place: usize, number: u64) -> Result<(), AllocError>
+        ensures { OnOk result (known_of self.new ≡ with_number (Dot place) number (known_of self.old)) }
+    {
+        learn(&mut self.dots, place, number)
+    }
+
+    /// Where a section starts, where that is known.
+    pub fn known_start(&self, section: usize) -> Option<u64>
+        ensures { result ≡ known_of self.now (Start section) }
+    {
+        number(&self.starts, section)
+    }
+
+    /// The load address of a section, where it is known.
+    pub fn known_load(&self, section: usize) -> Option<u64>
+        ensures { result ≡ known_of self.now (Load section) }
+    {
+        number(&self.loads, section)
+    }
+
+    /// Where a section ends, where that is known.
+    pub fn known_end(&self, section: usize) -> Option<u64>
+        ensures { result ≡ known_of self.now (End section) }
+    {
+        number(&self.ends, section)
+    }
+
+    /// The address of a row, where it is known.
+    pub fn known_address(&self, row: usize) -> Option<u64>
+        ensures { result ≡ known_of self.now (Address row) }
+    {
+        number(&self.addresses, row)
+    }
+
+    /// The location counter at a place, where it is known.
+    pub fn known_dot(&self, place: usize) -> Option<u64>
+        ensures { result ≡ known_of self.now (Dot place) }
+    {
+        number(&self.dots, place)
+    }
+
+    /// Where a section starts, or 0 where that is not known.
+    pub fn start(&self, section: usize) -> u64
+        ensures { result ≡ number_at (known_of self.now) (Start section) }
+    {
+        number_or_zero(&self.starts, section)
+    }
+
+    /// The load address of a section, or 0 where it is not known.
+    pub fn load(&self, section: usize) -> u64
+        ensures { result ≡ number_at (known_of self.now) (Load section) }
+    {
+        number_or_zero(&self.loads, section)
+    }
+
+    /// Where a section ends, or 0 where that is not known.
+    pub fn end(&self, section: usize) -> u64
+        ensures { result ≡ number_at (known_of self.now) (End section) }
+    {
+        number_or_zero(&self.ends, section)
+    }
+
+    /// The address of a row, or 0 where it is not known.
+    pub fn address(&self, row: usize) -> u64
+        ensures { result ≡ number_at (known_of self.now) (Address row) }
+    {
+        number_or_zero(&self.addresses, row)
+    }
+}

@@ -1,0 +1,131 @@
+//! What a script and its table say of sections and symbols, and the symbols that are being evaluated.
+
+ghost use Rattle.std.specs.Prelude.{◌≡◌};
+ghost use Rattle.std.specs.Option.{option_map};
+ghost use Rattle.wild_eval.specs.Scope.{entry_at, path_of, scope_of, shown_definition};
+ghost use Rattle.wild_value_spec.specs.Scope.{line_of};
+ghost use Rattle.wild_value_spec.specs.Value.{is_on};
+
+use wild_base::{Alignment, Name};
+use wild_expression_tree::Expression;
+use wild_numbering::Numbering;
+use wild_value_spec::Point;
+
+/// What a symbol is.
+#[derive(Clone, Copy)]
+pub enum Definition<'a> {
+    /// So many bytes behind the start of a row, which stands in a section.
+    OfRow {
+        row: usize,
+        offset: u64,
+        section: usize,
+    },
+    /// An expression at a point.
+    OfScript {
+        value: &'a Expression,
+        point: Point,
+    },
+}
+
+/// A symbol and its definition.
+#[derive(Clone, Copy)]
+pub struct SymbolEntry<'a> {
+    pub name: &'a Name,
+    pub definition: Definition<'a>,
+}
+
+/// What a script and its table say of sections and symbols. Sections are numbered from 0.
+#[derive(Clone, Copy)]
+pub struct Scope<'a> {
+    /// The names of the sections, in text order.
+    pub sections: &'a [&'a Name],
+    /// The same, to find the number of a section.
+    pub section_numbers: &'a Numbering,
+    /// The alignment of each section.
+    pub alignments: &'a [Alignment],
+    /// The names of the symbols, to find the number of a symbol.
+    pub symbols: &'a Numbering,
+    /// The symbols by their numbers.
+    pub entries: &'a [SymbolEntry<'a>],
+    /// The bytes of the script.
+    pub script: &'a [u8],
+}
+
+/// The symbols that are being evaluated, the last one first.
+#[derive(Clone, Copy)]
+pub enum Path<'a> {
+    Start,
+    Through(&'a Name, &'a Path<'a>),
+}
+
+impl<'a> Scope<'a> {
+    /// The number of the section of this name.
+    pub fn section(&self, name: &Name) -> Option<usize>
+        ensures { result ≡ (scope_of self.now).«section» name.now }
+    {
+        self.section_numbers.get(name)
+    }
+
+    /// The name of a section, or no bytes where there is none of that number.
+    pub fn name_of(&self, section: usize) -> &'a [u8]
+        ensures { result.now ≡ (scope_of self.now).section_name section }
+    {
+        match self.sections.get(section) {
+            Some(name) => name.bytes(),
+            None => {
+                let none: &[u8] = &[];
+                none
+            }
+        }
+    }
+
+    /// The alignment of a section, or the least one where there is none of that number.
+    pub fn alignment(&self, section: usize) -> Alignment
+        ensures { result ≡ (scope_of self.now).alignment section }
+    {
+        match self.alignments.get(section) {
+            Some(alignment) => *alignment,
+            None => Alignment::default(),
+        }
+    }
+
+    /// What the symbol of this name is, where there is one.
+    pub fn definition(&self, name: &Name) -> Option<Definition<'a>>
+        ensures { option_map shown_definition result ≡ (scope_of self.now).definition name.now }
+    {
+        match self.symbols.get(name) {
+            Some(number) => self.definition_at(number),
+            None => None,
+        }
+    }
+
+    fn definition_at(&self, number: usize) -> Option<Definition<'a>>
+        ensures { option_map shown_definition result ≡ entry_at number self.now.entries.now }
+    {
+        match self.entries.get(number) {
+            Some(entry) => Some(entry.definition),
+            None => None,
+        }
+    }
+
+    /// The line of a position of the script: 1, and one more for each newline before it.
+    #[tactic(auto, unfolding(wild_value_spec::specs::Scope::line_of))]
+    pub fn line(&self, position: usize) -> u64
+        ensures { result ≡ line_of self.now.script.now position }
+    {
+        let before = &self.script[..position.min(self.script.len())];
+        before.iter().filter(|byte| **byte == b'\n').count() as u64 + 1
+    }
+}
+
+impl Path<'_> {
+    /// Whether a symbol is being evaluated.
+    pub fn has(&self, name: &Name) -> bool
+        ensures { result ≡ is_on name.now (path_of self.now) }
+    {
+        match self {
+            Path::Start => false,
+            Path::Through(first, rest) => first.bytes() == name.bytes() || rest.has(name),
+        }
+    }
+}
