@@ -41,6 +41,7 @@ home_of homes told =
     else if told.alloc && told.no_bits then home_of_zeros homes told
     else None
 
+-- to this section, or nowhere
 abbrev pub sent_home : Option ℕ → SectionRuleOutcome
 sent_home None = Discard
 sent_home (Some id) = Section (regular id)
