@@ -131,7 +131,8 @@ fn rounding(rt: HostRuntime) -> Result<(), Fail> {
     assert_eq!(rt; page.value(), 4096);
     assert_eq!(rt; page.align_modulo(0x2afce, 0x42af7e), 0x42bfce);
     assert_eq!(rt; page.align_modulo(0x123456, 0x987222), 0x988456);
-    let sixteen = Alignment::new(16)?;
+    assert_eq!(rt; Alignment::new(16), Ok(alignment::PLT));
+    let sixteen = alignment::PLT;
     assert_eq!(rt; sixteen.align_up(31), 32);
     assert_eq!(rt; sixteen.align_up_usize(16), 16);
     assert_eq!(rt; sixteen.align_down(17), 16);
