@@ -1,5 +1,5 @@
--- Which flags a set holds, and what each says of a section.
-use Rattle.std.specs.Prelude.{ℕ, Bool, ◌==◌}
+-- Which flags a set holds, what each says of a section, and the letters that write them.
+use Rattle.std.specs.Prelude.{ℕ, Bool, ◌==◌, if◌then◌else◌, Option, Some, None}
 use Rattle.std.specs.Int.RustNames.{bit_and}
 use Rattle.wild_names.specs.declared.input_flags.InputFlags.{InputFlags}
 
@@ -30,3 +30,18 @@ is_tls = has 16
 -- it is to be left out
 abbrev pub is_exclude : InputFlags → Bool
 is_exclude = has 32
+
+-- the one flag with this bit
+abbrev pub flag : ℕ → Option InputFlags
+flag bit = Some (record { 0 = bit })
+
+-- the flag with this letter: A, W, X, B, T or E
+abbrev pub flag_of_letter : ℕ → Option InputFlags
+flag_of_letter c =
+    if c == 65 then flag 1
+    else if c == 87 then flag 2
+    else if c == 88 then flag 4
+    else if c == 66 then flag 8
+    else if c == 84 then flag 16
+    else if c == 69 then flag 32
+    else None

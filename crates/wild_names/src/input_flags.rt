@@ -1,6 +1,7 @@
 //! The flags of input sections.
 
-ghost use Rattle.std.specs.Prelude.{⊤, [], ◌∷◌, codes};
+ghost use Rattle.std.specs.Prelude.{⊤, [], ◌∷◌, ◌≡◌, codes};
+ghost use Rattle.wild_names.specs.InputFlags.{flag_of_letter};
 
 use bitflags::{Flag, Flags, bitflag_items};
 
@@ -38,5 +39,23 @@ impl Flags for InputFlags {
 
     fn from_bits_retain(bits: u8) -> InputFlags {
         InputFlags(bits)
+    }
+}
+
+impl InputFlags {
+    /// The flag with this letter, as tables and texts write it: A (ALLOC), W (WRITE), X (EXEC), B (NOBITS), T (TLS) or
+    /// E (EXCLUDE).
+    pub fn of_letter(letter: u8) -> Option<InputFlags>
+        ensures { result ≡ flag_of_letter letter }
+    {
+        match letter {
+            b'A' => Some(InputFlags::ALLOC),
+            b'W' => Some(InputFlags::WRITE),
+            b'X' => Some(InputFlags::EXEC),
+            b'B' => Some(InputFlags::NOBITS),
+            b'T' => Some(InputFlags::TLS),
+            b'E' => Some(InputFlags::EXCLUDE),
+            _ => None,
+        }
     }
 }

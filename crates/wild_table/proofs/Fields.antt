@@ -1,7 +1,7 @@
 -- The fields of a record by their places.
 use Rattle.std.proofs.Common.{◌≡◌, ◌≢◌, refl, ℕ, zero, suc, ◌≤◌, List, [], ◌∷◌, length, Some, None, arith}
 use Rattle.csv.specs.Records.{field_at}
-use Rattle.wild_table.specs.Table.{entry_of}
+use Rattle.wild_table.specs.Forms.{record_of}
 
 pub no_field : (fields : List (List ℕ)) (i : ℕ) → field_at fields i ≡ None → length fields ≤ i
 unfolding field_at
@@ -22,14 +22,14 @@ six_are (u ∷ v ∷ w ∷ x ∷ []) a b c d e f len ha hb hc hd he hf = absurd 
 six_are (u ∷ v ∷ w ∷ x ∷ y ∷ []) a b c d e f len ha hb hc hd he hf = absurd (omega arith)
 six_are (u ∷ v ∷ w ∷ x ∷ y ∷ z ∷ more ∷ rest) a b c d e f len ha hb hc hd he hf = absurd (omega arith)
 
-pub no_entry : (fields : List (List ℕ)) → length fields ≢ 6 → entry_of fields ≡ None
-no_entry [] n = refl
-no_entry (u ∷ []) n = refl
-no_entry (u ∷ v ∷ []) n = refl
-no_entry (u ∷ v ∷ w ∷ []) n = refl
-no_entry (u ∷ v ∷ w ∷ x ∷ []) n = refl
-no_entry (u ∷ v ∷ w ∷ x ∷ y ∷ []) n = refl
-no_entry (u ∷ v ∷ w ∷ x ∷ y ∷ z ∷ []) n = absurd (n refl)
-no_entry (u ∷ v ∷ w ∷ x ∷ y ∷ z ∷ more ∷ rest) n = refl
+pub no_record : (fields : List (List ℕ)) → length fields ≢ 6 → record_of fields ≡ None
+no_record [] n = refl
+no_record (u ∷ []) n = refl
+no_record (u ∷ v ∷ []) n = refl
+no_record (u ∷ v ∷ w ∷ []) n = refl
+no_record (u ∷ v ∷ w ∷ x ∷ []) n = refl
+no_record (u ∷ v ∷ w ∷ x ∷ y ∷ []) n = refl
+no_record (u ∷ v ∷ w ∷ x ∷ y ∷ z ∷ []) n = absurd (n refl)
+no_record (u ∷ v ∷ w ∷ x ∷ y ∷ z ∷ more ∷ rest) n = refl
 
 pub ruleset fields = (no_field, six_are)

@@ -1,4 +1,4 @@
-pub mod Entries
 pub mod Fields
 pub mod Numbers
-pub mod Records
+pub mod Reached
+pub mod Tables

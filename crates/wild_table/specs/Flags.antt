@@ -1,32 +1,23 @@
 -- The letters of flags.
-use Rattle.std.specs.Prelude.{ℕ, ◌+◌, Bool, ◌||◌, ◌==◌, nat_lt, if◌then◌else◌, List, Option, Some, None, count_by}
-use Rattle.std.specs.List.{list_all}
+use Rattle.std.specs.Prelude.{ℕ, if◌then◌else◌, List, [], ◌∷◌, Option, Some, None}
+use Rattle.std.specs.Int.RustNames.{bit_or}
+use Rattle.std.specs.Option.{option_and_then}
+use Rattle.wild_names.specs.InputFlags.{has, flag_of_letter}
 use Rattle.wild_names.specs.declared.input_flags.InputFlags.{InputFlags}
 
--- how often a letter comes
-abbrev pub times : List ℕ → ℕ → ℕ
-times letters letter = count_by (λ other. other == letter) letters
+-- flags and one more, which is not among them
+abbrev pub with_flag : InputFlags → InputFlags → Option InputFlags
+with_flag held new = if has new.0 held then None else Some (record { 0 = bit_or held.0 new.0 })
 
--- one of A, W, X, B, T, E
-abbrev pub is_letter : ℕ → Bool
-is_letter c = (c == 65) || (c == 87) || (c == 88) || (c == 66) || (c == 84) || (c == 69)
+-- flags and that of one letter more
+abbrev pub with_letter : InputFlags → ℕ → Option InputFlags
+with_letter held letter = option_and_then (with_flag held) (flag_of_letter letter)
 
--- each byte is a letter
-abbrev pub all_letters : List ℕ → Bool
-all_letters letters = list_all is_letter letters
-
--- some letter comes more than once
-abbrev pub has_twice : List ℕ → Bool
-has_twice letters = nat_lt 1 (times letters 65) || nat_lt 1 (times letters 87) || nat_lt 1 (times letters 88) || nat_lt 1 (times letters 66) || nat_lt 1 (times letters 84) || nat_lt 1 (times letters 69)
-
--- the bit of a letter that comes
-abbrev pub bit_of : List ℕ → ℕ → ℕ → ℕ
-bit_of letters letter bit = if times letters letter == 1 then bit else 0
-
--- the bits of all letters that come
-abbrev pub bits_of : List ℕ → ℕ
-bits_of letters = bit_of letters 65 1 + bit_of letters 87 2 + bit_of letters 88 4 + bit_of letters 66 8 + bit_of letters 84 16 + bit_of letters 69 32
+-- flags and those of these letters
+abbrev pub with_letters : InputFlags → List ℕ → Option InputFlags
+with_letters held [] = Some held
+with_letters held (letter ∷ letters) = option_and_then (λ new. with_letters new letters) (with_letter held letter)
 
 -- the flags that letters write, each at most once and in any order
 abbrev pub flags_of : List ℕ → Option InputFlags
-flags_of letters = if all_letters letters then (if has_twice letters then None else Some (record { 0 = bits_of letters })) else None
+flags_of letters = with_letters (record { 0 = 0 }) letters

@@ -1,3 +1,4 @@
 pub mod Flags
+pub mod Forms
 pub mod Number
 pub mod Table

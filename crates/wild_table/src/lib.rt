@@ -1,9 +1,9 @@
 //! Tables of inputs, and the numbers and flags in them, as they are written.
 #![tactic(auto)]
 
-mod entry;
 mod flags;
 mod number;
+mod records;
 mod table;
 
 pub use flags::read_flags;

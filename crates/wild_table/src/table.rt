@@ -3,9 +3,9 @@
 ghost use Rattle.std.specs.Prelude.{◌≡◌, IfOk, map};
 ghost use Rattle.csv.specs.Records.{fields_of};
 ghost use Rattle.wild_table.specs.declared.table.TableFault.TheVariants.{NoMemory};
-ghost use Rattle.wild_table.specs.Table.{records, table, table_of, entries_from, extended, ReadsTable};
+ghost use Rattle.wild_table.specs.Table.{field_lists, table, table_of, records_from, extended, ReadsTable};
 
-use crate::entry::{Entry, read_entry};
+use crate::records::{Record, read_record};
 use csv::{ByteRecord, ReaderBuilder};
 use std::alloc::{AllocError, Global};
 use wild_names::NoMemory;
@@ -40,13 +40,13 @@ impl From<NoMemory> for TableFault {
 pub fn read_table(alloc: Global, bytes: &[u8]) -> Result<InputTable, TableFault>
     ensures { ReadsTable (table bytes.now) result }
 {
-    let records = read_records(alloc, bytes)?;
-    read_entries(alloc, &records)
+    let records = split_records(alloc, bytes)?;
+    read_records(alloc, &records)
 }
 
 // The records of a text. A reader over a slice fails for memory alone.
-fn read_records(alloc: Global, bytes: &[u8]) -> Result<Vec<ByteRecord>, NoMemory>
-    ensures { IfOk result (λ v. map fields_of v.items ≡ records bytes.now) }
+fn split_records(alloc: Global, bytes: &[u8]) -> Result<Vec<ByteRecord>, NoMemory>
+    ensures { IfOk result (λ v. map fields_of v.items ≡ field_lists bytes.now) }
 {
     let reader = ReaderBuilder::new()
         .has_headers(false)
@@ -62,30 +62,30 @@ fn read_records(alloc: Global, bytes: &[u8]) -> Result<Vec<ByteRecord>, NoMemory
     Ok(records)
 }
 
-#[tactic(auto, using(crate::proofs::Entries::entries))]
-fn read_entries(alloc: Global, records: &[ByteRecord]) -> Result<InputTable, TableFault>
-    ensures { ReadsTable (table_of (entries_from 0 (map fields_of records.now))) result }
+#[tactic(auto, using(crate::proofs::Tables::tables))]
+fn read_records(alloc: Global, records: &[ByteRecord]) -> Result<InputTable, TableFault>
+    ensures { ReadsTable (table_of (records_from 0 (map fields_of records.now))) result }
 {
     let mut inputs = InputTable {
         rows: InputRows::new(alloc),
         symbols: SymbolRows::new(alloc),
     };
     for (index, record) in records.iter().enumerate() {
-        let Some(entry) = read_entry(alloc, record)? else {
+        let Some(read) = read_record(alloc, record)? else {
             return Err(TableFault::BadRecord { index });
         };
-        inputs = with_entry(inputs, entry)?;
+        inputs = with_record(inputs, read)?;
     }
     Ok(inputs)
 }
 
-// The table with an entry after the others.
-fn with_entry(mut inputs: InputTable, entry: Entry) -> Result<InputTable, NoMemory>
-    ensures { IfOk result (λ new. new ≡ extended inputs entry) }
+// The table with one record more after the others.
+fn with_record(mut inputs: InputTable, read: Record) -> Result<InputTable, NoMemory>
+    ensures { IfOk result (λ new. new ≡ extended inputs read) }
 {
-    match entry {
-        Entry::OfRow(row) => inputs.rows.push(row)?,
-        Entry::OfSymbol(symbol) => inputs.symbols.push(symbol)?,
+    match read {
+        Record::OfRow(row) => inputs.rows.push(row)?,
+        Record::OfSymbol(symbol) => inputs.symbols.push(symbol)?,
     }
     Ok(inputs)
 }

@@ -1,42 +1,13 @@
-use Rattle.std.proofs.Common.{Bor, List, ℕ, ◌≡◌, ◌∙◌, sym, ap, refl, rules, inl, inr, true, map, Some, ◌∷◌, []}
-use Rattle.std.specs.Result.{is_ok}
-use Rattle.std.proofs.lemmas.List.{map-append}
-use Rattle.csv.specs.Reading.{Reached, default_config, strip_bom, with_flexible}
+use Rattle.std.proofs.Common.{◌≡◌, ◌<◌, ◌∙◌, rules, length, get_or, Some}
 use Rattle.csv.specs.Records.{fields_of}
-use Rattle.csv.specs.declared.parser.State.TheVariants as st
-use Rattle.csv.specs.declared.reader.ReaderBuilder.{ReaderBuilder}
-use Rattle.csv.proofs.ReadFacts.{rows-end, rows-more}
-use Rattle.wild_table.proofs.Records.{are_records}
+use Rattle.wild_table.specs.Forms.{record_of}
+use Rattle.wild_table.specs.Table.{extended}
+use Rattle.wild_table.proofs.Tables.{read-more}
 use Rattle.wild_table.proofs.table.read_records.Goals as goal
 
-pub loop-record-init : goal.loop-record-init
-unfolding Reached
-loop-record-init c =
-    let made = c.from_reader-reader.ensures in
-    let built = c.flexible.ensures ∙ ap (λ (b : ReaderBuilder). with_flexible b true) c.has_headers.ensures in
-    let start = c.into_iter-record-iterator.ensures.into_iter_gives ∙ refl in
-    rw (start, c.into_byte_records-record-items.ensures.rdr, c.new-records.ensures.items) (
-      rw built at made.trim ∙ c.new.ensures.trim,
-      inr (inr (rw built at made.has_headers, made.headers)),
-      c.into_byte_records-record-items.ensures.left,
-      rw built at made.config ∙ c.new.ensures.config,
-      strip_bom c.args.bytes.now,
-      made.source,
-      (sym made.state, refl),
-    )
-
-pub loop-record-preserved : goal.loop-record-preserved
-loop-record-preserved c =
-    let inv = c.loop-record.invariant in
-    let step = rw (c.in-Some.is, c.in-Ok.is) at ((c.next.ensures.steps inv.2 inv.0).0 inv.1) in
-    let good : is_ok c.push.result ≡ true = search rules in
-    let items = rw good at c.push.ensures.items in
-    let more = rows-more (λ (s : Bor (List ℕ)). Some s.now) c.loop-record.record-iterator.rdr c.next.new.self.rdr (fields_of c.in-Ok.record) default_config st.StartRecord (strip_bom c.args.bytes.now) inv.4 (map fields_of c.loop-record.records.items) inv.3 inv.5 inv.6 step.0 in
-    (step.0.3 ∙ inv.0, inl step.1, step.2, step.0.2 ∙ inv.3, more.0, more.1, rw (items, map-append fields_of c.loop-record.records.items (c.in-Ok.record ∷ [])) more.2)
-
-pub returns : goal.returns
-returns c =
-    let inv = c.loop-record.invariant in
-    let step = rw c.in-None.is at ((c.next.ensures.steps inv.2 inv.0).0 inv.1) in
-    are_records (strip_bom c.args.bytes.now) (map fields_of c.loop-record.records.items)
-    (c.loop-record.record-iterator.rdr.state, inv.4, inv.6, rows-end (λ (s : Bor (List ℕ)). Some s.now) c.loop-record.record-iterator.rdr c.next.new.self.rdr [] default_config inv.4 inv.3 inv.5 step)
+pub loop-index-preserved : goal.loop-index-preserved
+loop-index-preserved c =
+    let less : c.loop-index.index < length c.args.records.now = search rules in
+    let e : Some c.in-Some.read ≡ record_of (fields_of (get_or c.args.records.now c.loop-index.index c.index-records-index.result)) = search rules in
+    let is : c.in_ok-inputs.inputs ≡ extended c.loop-index.inputs c.in-Some.read = search rules in
+    read-more c.loop-index.inputs c.in_ok-inputs.inputs c.args.records.now c.loop-index.index c.index-records-index.result c.in-Some.read less e is ∙ c.loop-index.invariant

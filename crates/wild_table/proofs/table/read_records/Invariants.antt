@@ -1,12 +1,9 @@
-use Rattle.std.proofs.Common.{◌≡◌, ◌<◌, ℕ, List, Some, map}
-use Rattle.csv.specs.Reading.{Reached, Ready, default_config, source_of, strip_bom}
+use Rattle.std.proofs.Common.{◌≡◌, map, drop}
 use Rattle.csv.specs.Records.{fields_of}
-use Rattle.csv.specs.declared.parser.State.TheVariants as st
-use Rattle.csv.specs.declared.reader.Trim.TheVariants as trim
+use Rattle.wild_table.specs.Table.{records_from, table_of}
+use Rattle.wild_table.proofs.Tables.{with_front}
 use Rattle.wild_table.proofs.table.read_records.Given as goal
 
--- the records so far take the text to where the reader is
-abbrev pub invariant-loop-record : goal.invariant-loop-record
-invariant-loop-record l = (l.record-iterator.rdr.trim ≡ trim.None) × Ready l.record-iterator.rdr × (0 < l.record-iterator.left) × (l.record-iterator.rdr.config ≡ default_config)
-    × (y : List ℕ) × (source_of (λ s. Some s.now) l.record-iterator.rdr ≡ Some y)
-    × Reached default_config st.StartRecord (strip_bom l.fn.bytes) (map fields_of l.records.items) l.record-iterator.rdr.state y
+-- the table so far and the records that are left are those of all
+abbrev pub invariant-loop-index : goal.invariant-loop-index
+invariant-loop-index l = with_front l.inputs (records_from l.index (map fields_of (drop l.index l.records))) ≡ table_of (records_from 0 (map fields_of l.records))

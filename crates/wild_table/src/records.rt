@@ -2,7 +2,7 @@
 
 ghost use Rattle.std.specs.Prelude.{◌≡◌, ◌≢◌, IfOk, MatchOption, length, ◌∷◌, []};
 ghost use Rattle.csv.specs.Records.{fields_of};
-ghost use Rattle.wild_table.specs.Table.{entry_of, section_entry, symbol_entry, no_fields};
+ghost use Rattle.wild_table.specs.Forms.{record_of, section_record, symbol_record, no_fields};
 
 use crate::{read_flags, read_number};
 use csv::ByteRecord;
@@ -12,7 +12,7 @@ use wild_plan_spec::{InputRow, SymbolRow};
 
 /// What a record writes.
 #[derive(Debug, Drop)]
-pub enum Entry {
+pub enum Record {
     OfRow(InputRow),
     OfSymbol(SymbolRow),
 }
@@ -53,10 +53,10 @@ fn six_fields(row: &ByteRecord) -> Option<Fields<'_>>
     })
 }
 
-/// The entry that a record writes, if it is of a form.
-#[tactic(auto, using(crate::proofs::Fields::no_entry))]
-pub fn read_entry(alloc: Global, record: &ByteRecord) -> Result<Option<Entry>, NoMemory>
-    ensures { IfOk result (λ read. read ≡ entry_of (fields_of «record».now)) }
+/// What a record writes, if it is of a form.
+#[tactic(auto, using(crate::proofs::Fields::no_record))]
+pub fn read_record(alloc: Global, record: &ByteRecord) -> Result<Option<Record>, NoMemory>
+    ensures { IfOk result (λ read. read ≡ record_of (fields_of «record».now)) }
 {
     let Some(fields) = six_fields(record) else {
         return Ok(None);
@@ -77,9 +77,9 @@ fn are_empty(a: &[u8], b: &[u8]) -> bool
 }
 
 // The fields are file, section, size, alignment and flags.
-fn read_section(alloc: Global, fields: Fields<'_>) -> Result<Option<Entry>, NoMemory>
+fn read_section(alloc: Global, fields: Fields<'_>) -> Result<Option<Record>, NoMemory>
     ensures { let of = fields.entry in
-        IfOk result (λ read. read ≡ section_entry of.first.now of.second.now of.third.now of.fourth.now of.fifth.now) }
+        IfOk result (λ read. read ≡ section_record of.first.now of.second.now of.third.now of.fourth.now of.fifth.now) }
 {
     let Some(size) = read_number(fields.third) else {
         return Ok(None);
@@ -90,7 +90,7 @@ fn read_section(alloc: Global, fields: Fields<'_>) -> Result<Option<Entry>, NoMe
     let Some(flags) = read_flags(fields.fifth) else {
         return Ok(None);
     };
-    Ok(Some(Entry::OfRow(InputRow {
+    Ok(Some(Record::OfRow(InputRow {
         file: Name::new(alloc, fields.first)?,
         section: Name::new(alloc, fields.second)?,
         size,
@@ -100,9 +100,9 @@ fn read_section(alloc: Global, fields: Fields<'_>) -> Result<Option<Entry>, NoMe
 }
 
 // The fields are name, row and offset.
-fn read_symbol(alloc: Global, fields: Fields<'_>) -> Result<Option<Entry>, NoMemory>
+fn read_symbol(alloc: Global, fields: Fields<'_>) -> Result<Option<Record>, NoMemory>
     ensures { let of = fields.entry in
-        IfOk result (λ read. read ≡ symbol_entry of.first.now of.second.now of.third.now) }
+        IfOk result (λ read. read ≡ symbol_record of.first.now of.second.now of.third.now) }
 {
     let Some(row) = read_number(fields.second) else {
         return Ok(None);
@@ -110,7 +110,7 @@ fn read_symbol(alloc: Global, fields: Fields<'_>) -> Result<Option<Entry>, NoMem
     let Some(offset) = read_number(fields.third) else {
         return Ok(None);
     };
-    Ok(Some(Entry::OfSymbol(SymbolRow {
+    Ok(Some(Record::OfSymbol(SymbolRow {
         name: Name::new(alloc, fields.first)?,
         row: row as usize,
         offset,
