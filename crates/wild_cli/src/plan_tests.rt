@@ -1,6 +1,6 @@
-//! Rows: a script, a table, and what is printed.
+//! A script, a table, and what is written.
 
-use crate::tests::planned;
+use crate::tests::{Case, assert_faults, assert_texts, planned};
 use std::alloc::{AllocError, Global};
 use std::test::Fail;
 
@@ -14,52 +14,49 @@ input 3 0x0000000000000010 .d f.o .d
 
 #[test]
 fn plans(rt: HostRuntime) -> Result<(), Fail> {
-    let alloc = rt.alloc();
-    let cases: [(&[u8], &[u8], u8, &[u8], &[u8]); 7] = [
+    let cases: [Case<'_>; 2] = [
         (
+            "exact names",
             b"SECTIONS { .a : { *(.a .b) *(.c) } .d : { *(.d) } }",
             b"section,f.o,.a,3,2,A\nsection,f.o,.c,4,8,A\nsection,f.o,.b,1,4,A\nsection,f.o,.d,5,1,AX\n",
-            0,
             PLAN,
-            b"",
         ),
-        (b"/*/", b"", 0, b"", b""),
+        ("an empty script", b"/*/", b"", b""),
+    ];
+    assert_texts(&rt, rt.alloc(), &cases)?;
+    Ok(())
+}
+
+#[test]
+fn faults(rt: HostRuntime) -> Result<(), Fail> {
+    let cases: [Case<'_>; 5] = [
+        ("no tree", b"SECTIONS", b"", b"fault 1 Syntax position=8\n"),
         (
+            "two sections of one name",
             b"SECTIONS { .a : { } .a : { } }",
-            b"",
-            1,
             b"",
             b"fault 14 DuplicateSection name=.a\n",
         ),
         (
+            "an alignment that is no power of two",
             b"SECTIONS { .a : { *(.a) } }",
             b"section,f.o,.a,1,3,A\n",
-            1,
-            b"",
             b"fault 5 BadRow row=0\n",
         ),
         (
+            "an end that no alignment fits",
             b"SECTIONS { .a : { *(.a) } }",
             b"section,f.o,.a,18446744073709551615,2,A\n",
-            1,
-            b"",
             b"fault 35 AlignOverflow value=18446744073709551615 align=2\n",
         ),
         (
+            "an orphan of zeros",
             b"SECTIONS { .a : { *(.a) } }",
             b"section,f.o,.z,1,1,AE\nsection,f.o,.z,1,1,AB\n",
-            1,
-            b"",
             b"fault 38 Unsupported index=1\n",
         ),
-        (b"SECTIONS", b"", 1, b"", b"fault 1 Syntax position=8\n"),
     ];
-    for (script, table, status, text, line) in cases {
-        let (answer, out, err) = planned(alloc, script, table)?;
-        assert_eq!(rt; answer, status);
-        assert_eq!(rt; out.bytes(), text);
-        assert_eq!(rt; err.bytes(), line);
-    }
+    assert_faults(&rt, rt.alloc(), &cases)?;
     Ok(())
 }
 
@@ -81,92 +78,97 @@ location 0 0xfffffffffffffffe
 
 #[test]
 fn counters(rt: HostRuntime) -> Result<(), Fail> {
-    let alloc = rt.alloc();
-    let cases: [(&[u8], &[u8], u8, &[u8]); 3] = [
+    let cases: [Case<'_>; 3] = [
         (
+            "before, between and after sections",
             b"SECTIONS { . = 0x10; .a : { *(.a) } . -= 12; .b : { *(.b) } . = ALIGN(16) * 2; .c : { } }",
             b"section,f.o,.a,4,4,A\nsection,f.o,.b,2,1,A\n",
-            0,
             COUNTED,
         ),
         (
+            "up to the last address",
             b"SECTIONS { . = 0xFFFFFFFFFFFFFFFE; .a : { *(.a) } }",
             b"section,f.o,.a,1,1,A\n",
-            0,
             LAST,
         ),
         (
+            "from one SECTIONS to the next",
             b"SECTIONS { . = 1; } SECTIONS { . = . + 1; }",
             b"",
-            0,
             b"location 0 0x0000000000000001\nlocation 1 0x0000000000000002\n",
         ),
     ];
-    for (script, table, status, text) in cases {
-        let (answer, out, err) = planned(alloc, script, table)?;
-        assert_eq!(rt; err.bytes(), b"".as_slice());
-        assert_eq!(rt; answer, status);
-        assert_eq!(rt; out.bytes(), text);
-    }
+    assert_texts(&rt, rt.alloc(), &cases)?;
     Ok(())
 }
 
 #[test]
-fn counter_faults(rt: HostRuntime) -> Result<(), Fail> {
-    let alloc = rt.alloc();
-    let cases: [(&[u8], &[u8], &[u8]); 9] = [
+fn addresses_that_do_not_fit(rt: HostRuntime) -> Result<(), Fail> {
+    let cases: [Case<'_>; 3] = [
         (
+            "two sections at one address",
             b"SECTIONS { . = 0x10; .a : { *(.a) } . = 0x10; .b : { *(.b) } }",
             b"section,f.o,.a,1,1,A\nsection,f.o,.b,1,1,A\n",
             b"fault 32 Overlap first=.a second=.b\n",
         ),
         (
+            "the lowest two of three",
             b"SECTIONS { . = 8; .a : { *(.a) } . = 0; .b : { *(.b) } . = 2; .c : { *(.c) } }",
             b"section,f.o,.a,4,1,A\nsection,f.o,.b,4,1,A\nsection,f.o,.c,8,1,A\n",
             b"fault 32 Overlap first=.b second=.c\n",
         ),
         (
+            "past the last address",
             b"SECTIONS { . = 0xFFFFFFFFFFFFFFFE; .a : { *(.a) } }",
             b"section,f.o,.a,2,1,A\n",
             b"fault 34 Overflow left=18446744073709551614 right=2\n",
         ),
+    ];
+    assert_faults(&rt, rt.alloc(), &cases)?;
+    Ok(())
+}
+
+#[test]
+fn counters_without_value(rt: HostRuntime) -> Result<(), Fail> {
+    let cases: [Case<'_>; 6] = [
         (
+            "no alignment",
             b"SECTIONS { . = ALIGN(0); }",
             b"",
             b"fault 24 AlignZero statement=0\n",
         ),
         (
+            "a division by zero",
             b"SECTIONS { . = 1 / 0; }",
             b"",
             b"fault 22 DivisionByZero statement=0\n",
         ),
         (
-            b"SECTIONS { .a : { } . %= 0; }",
-            b"",
-            b"fault 1 Syntax position=22\n",
-        ),
-        (
+            "a remainder by zero",
             b"SECTIONS { .a : { } . = 1 % 0; }",
             b"",
             b"fault 23 ModuloByZero statement=2\n",
         ),
         (
+            "no such operator",
+            b"SECTIONS { .a : { } . %= 0; }",
+            b"",
+            b"fault 1 Syntax position=22\n",
+        ),
+        (
+            "a symbol, before two sections of one name",
             b"SECTIONS { .a : { } . = x; .a : { } }",
             b"",
             b"fault 38 Unsupported index=2\n",
         ),
         (
+            "the size of a section",
             b"SECTIONS { . = 1 ? 2 : SIZEOF(.a); }",
             b"",
             b"fault 38 Unsupported index=0\n",
         ),
     ];
-    for (script, table, line) in cases {
-        let (answer, out, err) = planned(alloc, script, table)?;
-        assert_eq!(rt; err.bytes(), line);
-        assert_eq!(rt; answer, 1);
-        assert_eq!(rt; out.bytes(), b"".as_slice());
-    }
+    assert_faults(&rt, rt.alloc(), &cases)?;
     Ok(())
 }
 
@@ -185,6 +187,44 @@ symbol h 0x0000000000000009 - hidden
 symbol y 0x0000000000000028 - default
 ";
 
+const NAMING: &[u8] = b"SECTIONS { . = 0x10; .a : { *(.a) } }
+x = t + 1;
+PROVIDE(t = 5);
+PROVIDE_HIDDEN(h = DEFINED(t) + SIZEOF(.a) + SIZEOF(.none) + DEFINED(none));
+PROVIDE(h = 1 / 0);
+y = ALIGNOF(.a) + ADDR(.a) + LOADADDR(.a);";
+
+const SIZED: &[u8] = b"section .b 0x0000000000000000 0x0000000000000000 0x0000000000000003 1 A - - -
+input 0 0x0000000000000000 .b f.o .b
+symbol x 0x0000000000000003 - default
+";
+
+#[test]
+fn symbols_of_sections(rt: HostRuntime) -> Result<(), Fail> {
+    let cases: [Case<'_>; 3] = [
+        (
+            "the counter after a section",
+            b"SECTIONS { . = 0x1000; .a : { *(.a) } x = .; }",
+            b"section,f.o,.a,4,4,A\n",
+            FIRST,
+        ),
+        (
+            "a symbol of the table, and words of sections",
+            NAMING,
+            b"symbol,t,0,2,,\nsection,f.o,.a,4,8,A\n",
+            NAMED,
+        ),
+        (
+            "the size of a later section",
+            b"SECTIONS { x = SIZEOF(.b); .b : { *(.b) } }",
+            b"section,f.o,.b,3,1,A\n",
+            SIZED,
+        ),
+    ];
+    assert_texts(&rt, rt.alloc(), &cases)?;
+    Ok(())
+}
+
 const DOUBLED: &[u8] = b"symbol s0 0x0000000000000001 - default
 symbol s1 0x0000000000000002 - default
 symbol s2 0x0000000000000004 - default
@@ -198,139 +238,169 @@ symbol s9 0x0000000000000200 - default
 symbol s10 0x0000000000000400 - default
 ";
 
+const DOUBLING: &[u8] =
+    b"s0 = 1; s1 = s0 + s0; s2 = s1 + s1; s3 = s2 + s2; s4 = s3 + s3; s5 = s4 + s4;
+s6 = s5 + s5; s7 = s6 + s6; s8 = s7 + s7; s9 = s8 + s8; s10 = s9 + s9;";
+
+const COUNTING: &[u8] = b"location 0 0x0000000000000010
+symbol x 0x0000000000000010 - default
+symbol y 0x0000000000000010 - default
+";
+
 #[test]
-fn symbols(rt: HostRuntime) -> Result<(), Fail> {
-    let alloc = rt.alloc();
-    let cases: [(&[u8], &[u8], &[u8]); 7] = [
+fn symbols_of_symbols(rt: HostRuntime) -> Result<(), Fail> {
+    let cases: [Case<'_>; 4] = [
+        ("each twice the last", DOUBLING, b"", DOUBLED),
         (
-            b"SECTIONS { . = 0x1000; .a : { *(.a) } x = .; }",
-            b"section,f.o,.a,4,4,A\n",
-            FIRST,
-        ),
-        (
-            b"SECTIONS { . = 0x10; .a : { *(.a) } }
-x = t + 1;
-PROVIDE(t = 5);
-PROVIDE_HIDDEN(h = DEFINED(t) + SIZEOF(.a) + SIZEOF(.none) + DEFINED(none));
-PROVIDE(h = 1 / 0);
-y = ALIGNOF(.a) + ADDR(.a) + LOADADDR(.a);",
-            b"symbol,t,0,2,,\nsection,f.o,.a,4,8,A\n",
-            NAMED,
-        ),
-        (
-            b"s0 = 1; s1 = s0 + s0; s2 = s1 + s1; s3 = s2 + s2; s4 = s3 + s3; s5 = s4 + s4;
-s6 = s5 + s5; s7 = s6 + s6; s8 = s7 + s7; s9 = s8 + s8; s10 = s9 + s9;",
-            b"",
-            DOUBLED,
-        ),
-        (
+            "names without bytes",
             b"\"\" = 5; PROVIDE(\"\" = 1 / 0); . = 4; ASSERT(1, m)",
             b"",
             b"",
         ),
         (
-            b"SECTIONS { x = SIZEOF(.b); .b : { *(.b) } }",
-            b"section,f.o,.b,3,1,A\n",
-            b"section .b 0x0000000000000000 0x0000000000000000 0x0000000000000003 1 A - - -
-input 0 0x0000000000000000 .b f.o .b
-symbol x 0x0000000000000003 - default
-",
-        ),
-        (
+            "the counter in and after SECTIONS",
             b"SECTIONS { . = 16; x = .; } y = . + x;",
             b"",
-            b"location 0 0x0000000000000010
-symbol x 0x0000000000000010 - default
-symbol y 0x0000000000000010 - default
-",
+            COUNTING,
         ),
         (
+            "provided where nothing else is",
             b"PROVIDE(x = 1 / 0); x = 1; SECTIONS { PROVIDE(y = x); PROVIDE_HIDDEN(x = 2); ASSERT(x == 1, m) }",
             b"",
             b"symbol x 0x0000000000000001 - default\nsymbol y 0x0000000000000001 - default\n",
         ),
     ];
-    for (script, table, text) in cases {
-        let (answer, out, err) = planned(alloc, script, table)?;
-        assert_eq!(rt; err.bytes(), b"".as_slice());
-        assert_eq!(rt; answer, 0);
-        assert_eq!(rt; out.bytes(), text);
-    }
+    assert_texts(&rt, rt.alloc(), &cases)?;
     Ok(())
 }
 
 #[test]
-fn symbol_faults(rt: HostRuntime) -> Result<(), Fail> {
-    let alloc = rt.alloc();
-    let row: &[u8] = b"section,f.o,.a,4,1,A\nsymbol,x,0,5,,\n";
-    let cases: [(&[u8], &[u8], &[u8]); 16] = [
-        (b"a = b; b = a;", b"", b"fault 28 SymbolCycle name=a\n"),
-        (b"x += 1;", b"", b"fault 28 SymbolCycle name=x\n"),
-        (b"x = 1\n-lfoo", b"", b"fault 26 UnknownSymbol name=lfoo\n"),
+fn names_of_symbols(rt: HostRuntime) -> Result<(), Fail> {
+    let cases: [Case<'_>; 6] = [
         (
-            b"ASSERT(0, \"m\")",
+            "two that ask for each other",
+            b"a = b; b = a;",
             b"",
-            b"fault 36 AssertFailed line=1 message=m\n",
+            b"fault 28 SymbolCycle name=a\n",
         ),
         (
-            b"SECTIONS {\nASSERT(1, a)\nASSERT\n(0, b) }",
+            "one that asks for itself",
+            b"x += 1;",
             b"",
-            b"fault 36 AssertFailed line=4 message=b\n",
+            b"fault 28 SymbolCycle name=x\n",
         ),
         (
-            b"SECTIONS { .a : { *(.a) } }",
-            row,
-            b"fault 6 BadSymbolRow symbol=0\n",
-        ),
-        (b"", b"symbol,x,0,0,,\n", b"fault 6 BadSymbolRow symbol=0\n"),
-        (b"x = 1; x = 2;", b"", b"fault 15 DuplicateSymbol name=x\n"),
-        (
-            b"SECTIONS { .a : { *(.a) } x = 1; }",
-            b"symbol,x,0,4,,\nsection,f.o,.a,4,1,A\n",
-            b"fault 15 DuplicateSymbol name=x\n",
+            "a provided one that does",
+            b"SECTIONS { PROVIDE(y = y); }",
+            b"",
+            b"fault 28 SymbolCycle name=y\n",
         ),
         (
+            "an expression over two lines",
+            b"x = 1\n-lfoo",
+            b"",
+            b"fault 26 UnknownSymbol name=lfoo\n",
+        ),
+        (
+            "an unknown section",
             b"x = ADDR(.none);",
             b"",
             b"fault 25 UnknownSection name=.none\n",
         ),
         (
-            b"SECTIONS { .a : { } } x = SIZEOF_HEADERS;",
+            "two of one name",
+            b"x = 1; x = 2;",
             b"",
-            b"fault 38 Unsupported index=2\n",
+            b"fault 15 DuplicateSymbol name=x\n",
+        ),
+    ];
+    assert_faults(&rt, rt.alloc(), &cases)?;
+    Ok(())
+}
+
+#[test]
+fn asserts(rt: HostRuntime) -> Result<(), Fail> {
+    let cases: [Case<'_>; 4] = [
+        (
+            "on the first line",
+            b"ASSERT(0, \"m\")",
+            b"",
+            b"fault 36 AssertFailed line=1 message=m\n",
         ),
         (
+            "on the line of the bracket",
+            b"SECTIONS {\nASSERT(1, a)\nASSERT\n(0, b) }",
+            b"",
+            b"fault 36 AssertFailed line=4 message=b\n",
+        ),
+        (
+            "a region in a branch not taken",
             b"ASSERT(1 || ORIGIN(r), m)",
             b"",
             b"fault 38 Unsupported index=0\n",
         ),
         (
+            "after the symbols",
             b"ASSERT(0, m) x = 1 / 0;",
             b"",
             b"fault 22 DivisionByZero statement=1\n",
         ),
+    ];
+    assert_faults(&rt, rt.alloc(), &cases)?;
+    Ok(())
+}
+
+const ABOVE: &[u8] = b"section,f.o,.a,4,1,A\nsymbol,x,0,5,,\n";
+
+#[test]
+fn symbols_of_the_table(rt: HostRuntime) -> Result<(), Fail> {
+    let cases: [Case<'_>; 3] = [
         (
+            "above the size of its row",
+            b"SECTIONS { .a : { *(.a) } }",
+            ABOVE,
+            b"fault 6 BadSymbolRow symbol=0\n",
+        ),
+        (
+            "of no row",
+            b"",
+            b"symbol,x,0,0,,\n",
+            b"fault 6 BadSymbolRow symbol=0\n",
+        ),
+        (
+            "of a name of the script",
+            b"SECTIONS { .a : { *(.a) } x = 1; }",
+            b"symbol,x,0,4,,\nsection,f.o,.a,4,1,A\n",
+            b"fault 15 DuplicateSymbol name=x\n",
+        ),
+    ];
+    assert_faults(&rt, rt.alloc(), &cases)?;
+    Ok(())
+}
+
+#[test]
+fn symbols_without_value(rt: HostRuntime) -> Result<(), Fail> {
+    let cases: [Case<'_>; 3] = [
+        (
+            "the size of the headers",
+            b"SECTIONS { .a : { } } x = SIZEOF_HEADERS;",
+            b"",
+            b"fault 38 Unsupported index=2\n",
+        ),
+        (
+            "of a name without bytes",
             b"\"\" = ALIGN(0);",
             b"",
             b"fault 24 AlignZero statement=0\n",
         ),
         (
+            "a counter outside SECTIONS",
             b". = 1 % 0; y = 1;",
             b"",
             b"fault 23 ModuloByZero statement=0\n",
         ),
-        (
-            b"SECTIONS { PROVIDE(y = y); }",
-            b"",
-            b"fault 28 SymbolCycle name=y\n",
-        ),
     ];
-    for (script, table, line) in cases {
-        let (answer, out, err) = planned(alloc, script, table)?;
-        assert_eq!(rt; err.bytes(), line);
-        assert_eq!(rt; answer, 1);
-        assert_eq!(rt; out.bytes(), b"".as_slice());
-    }
+    assert_faults(&rt, rt.alloc(), &cases)?;
     Ok(())
 }
 
@@ -355,17 +425,48 @@ fn backward_chain(alloc: Global, last: usize) -> Result<String, AllocError> {
     Ok(script)
 }
 
+// What is printed for such a chain.
+fn chain_text(alloc: Global, last: usize) -> Result<String, AllocError> {
+    let mut text = String::new(alloc);
+    for number in 0..=last {
+        let line = format!(in alloc; "symbol s{number} 0x0000000000000001 - default\n")?;
+        text.push_str(line.as_str())?;
+    }
+    Ok(text)
+}
+
 #[test]
-fn chains(rt: HostRuntime) -> Result<(), Fail> {
+fn longest_chain(rt: HostRuntime) -> Result<(), Fail> {
     let alloc = rt.alloc();
-    let script = chain(alloc, 100)?;
-    let (answer, _, err) = planned(alloc, script.as_bytes(), b"")?;
+    let script = chain(alloc, 1023)?;
+    let text = chain_text(alloc, 1023)?;
+    let (answer, out, err) = planned(alloc, script.as_bytes(), b"")?;
     assert_eq!(rt; err.bytes(), b"".as_slice());
     assert_eq!(rt; answer, 0);
-    let script = backward_chain(alloc, 1024)?;
-    let (answer, _, err) = planned(alloc, script.as_bytes(), b"")?;
-    assert_eq!(rt; err.bytes(), b"fault 29 DeepValue statement=0\n".as_slice());
-    assert_eq!(rt; answer, 1);
+    assert_eq!(rt; out.bytes(), text.as_bytes());
+    Ok(())
+}
+
+#[test]
+fn chains_too_long(rt: HostRuntime) -> Result<(), Fail> {
+    let alloc = rt.alloc();
+    let forward = chain(alloc, 1024)?;
+    let backward = backward_chain(alloc, 1024)?;
+    let cases: [Case<'_>; 2] = [
+        (
+            "forward",
+            forward.as_bytes(),
+            b"",
+            b"fault 29 DeepValue statement=1024\n",
+        ),
+        (
+            "backward",
+            backward.as_bytes(),
+            b"",
+            b"fault 29 DeepValue statement=0\n",
+        ),
+    ];
+    assert_faults(&rt, alloc, &cases)?;
     Ok(())
 }
 
@@ -391,33 +492,43 @@ symbol s 0x0000000000000005 .b default
 symbol e 0x0000000000000008 - default
 ";
 
+const EXCLUDED: &[u8] =
+    b"section .a 0x0000000000000000 0x0000000000000000 0x0000000000000000 1 A - - -
+discard 0 f.o .a
+";
+
+const JOINING: &[u8] = b"section,f.o,.b,2,1,A
+section,f.o,.a,4,4,A
+section,f.o,,1,1,A
+section,f.o,.x,1,1,A
+section,f.o,.c,2,8,AW
+section,f.o,.a,9,1,E
+symbol,s,0,1,,
+symbol,u,2,1,,
+";
+
 #[test]
 fn fates(rt: HostRuntime) -> Result<(), Fail> {
-    let alloc = rt.alloc();
-    let cases: [(&[u8], &[u8], &[u8]); 3] = [
+    let cases: [Case<'_>; 3] = [
         (
+            "orphans of one name",
             b"",
             b"section,f.o,.b,1,1,A\nsection,f.o,.a,1,1,A\nsection,f.o,.b,2,1,A\n",
             ORPHANS,
         ),
         (
+            "excluded",
             b"SECTIONS { .a : { *(.a) } }",
             b"section,f.o,.a,4,1,AE\nsymbol,x,0,0,,\n",
-            b"section .a 0x0000000000000000 0x0000000000000000 0x0000000000000000 1 A - - -
-discard 0 f.o .a
-",
+            EXCLUDED,
         ),
         (
+            "orphans among sections of the script",
             b"SECTIONS { .a : { } .b : { *(.x) *(.y) } } e = ADDR(.c);",
-            b"section,f.o,.b,2,1,A\nsection,f.o,.a,4,4,A\nsection,f.o,,1,1,A\nsection,f.o,.x,1,1,A\nsection,f.o,.c,2,8,AW\nsection,f.o,.a,9,1,E\nsymbol,s,0,1,,\nsymbol,u,2,1,,\n",
+            JOINING,
             JOINED,
         ),
     ];
-    for (script, table, text) in cases {
-        let (answer, out, err) = planned(alloc, script, table)?;
-        assert_eq!(rt; err.bytes(), b"".as_slice());
-        assert_eq!(rt; answer, 0);
-        assert_eq!(rt; out.bytes(), text);
-    }
+    assert_texts(&rt, rt.alloc(), &cases)?;
     Ok(())
 }

@@ -4,6 +4,7 @@ use crate::{
 };
 use std::alloc::Global;
 use std::fs;
+use std::process::Abort;
 use std::test::Fail;
 use wild_names::{Fault, Name, NoMemory};
 
@@ -29,34 +30,51 @@ fn shelf(alloc: Global, table: &[u8]) -> Result<SureShelf, NoMemory> {
 }
 
 #[test]
-fn runs(rt: HostRuntime) -> Result<(), Fail> {
+fn refused_words(rt: HostRuntime) -> Result<(), Fail> {
     let alloc = rt.alloc();
-    let cases: [(&[&[u8]], &[u8], u8, &[u8]); 5] = [
-        (&[], b"", 2, USAGE),
-        (&[b"plan", b"s"], b"", 2, USAGE),
-        (&[b"plan", b"s", b"t", b"t"], b"", 2, USAGE),
+    let cases: [(&str, &[&[u8]]); 4] = [
+        ("no words", &[]),
+        ("no table", &[b"plan", b"s"]),
+        ("a word too many", &[b"plan", b"s", b"t", b"t"]),
+        ("another command", &[b"place", b"s", b"t"]),
+    ];
+    for (case, words) in cases {
+        let words = names(alloc, words)?;
+        let mut files = shelf(alloc, b"")?;
+        let mut out = SureTray::new(alloc);
+        let mut err = SureTray::new(alloc);
+        let answer = run(alloc, words.as_slice(), &mut files, &mut out, &mut err);
+        assert_eq!(rt; answer, 2, "{case}");
+        assert_eq!(rt; out.bytes(), b"".as_slice(), "{case}");
+        assert_eq!(rt; err.bytes(), USAGE, "{case}");
+    }
+    Ok(())
+}
+
+#[test]
+fn refused_tables(rt: HostRuntime) -> Result<(), Fail> {
+    let alloc = rt.alloc();
+    let cases: [(&str, &[u8], &[u8]); 2] = [
         (
-            &[b"plan", b"s", b"t"],
+            "five fields",
             b"section,f.o,.a,3,2,A\nsection,f.o,.a,3,2\n",
-            6,
             b"bad record 1\n",
         ),
         (
-            &[b"plan", b"s", b"t"],
+            "a letter twice",
             b"section,f.o,.a,3,2,AA\n",
-            6,
             b"bad record 0\n",
         ),
     ];
-    for (words, table, status, line) in cases {
-        let words = names(alloc, words)?;
+    for (case, table, line) in cases {
+        let words = names(alloc, &[b"plan", b"s", b"t"])?;
         let mut files = shelf(alloc, table)?;
         let mut out = SureTray::new(alloc);
         let mut err = SureTray::new(alloc);
         let answer = run(alloc, words.as_slice(), &mut files, &mut out, &mut err);
-        assert_eq!(rt; answer, status);
-        assert_eq!(rt; out.bytes(), b"".as_slice());
-        assert_eq!(rt; err.bytes(), line);
+        assert_eq!(rt; answer, 6, "{case}");
+        assert_eq!(rt; out.bytes(), b"".as_slice(), "{case}");
+        assert_eq!(rt; err.bytes(), line, "{case}");
     }
     Ok(())
 }
@@ -153,47 +171,82 @@ fn tray(alloc: Global, written: Option<usize>) -> Result<Tray, NoMemory> {
     Ok(Tray::new(alloc, failing))
 }
 
+// The status of a run over a script and a table, of which chosen loads and puts fail, and what it wrote.
+fn run_failing(
+    alloc: Global,
+    words: &[&[u8]],
+    table: &[u8],
+    loads: &[u64],
+    puts: [Option<usize>; 2],
+) -> Result<(u8, Tray, Tray), NoMemory> {
+    let words = names(alloc, words)?;
+    let script = Name::new(alloc, b"SECTIONS { .a : { *(.a) } }")?;
+    let files = two_files(alloc, script, table)?;
+    let mut files = Shelf::new(files, Vec::from_slice(alloc, loads)?);
+    let mut out = tray(alloc, puts[0])?;
+    let mut err = tray(alloc, puts[1])?;
+    let answer = run(alloc, words.as_slice(), &mut files, &mut out, &mut err);
+    Ok((answer, out, err))
+}
+
+const PLAN: &[&[u8]] = &[b"plan", b"s", b"t"];
+
+const ROW: &[u8] = b"section,f.o,.a,1,1,A\n";
+
 #[test]
-fn failing_calls(rt: HostRuntime) -> Result<(), Fail> {
+fn failing_loads(rt: HostRuntime) -> Result<(), Fail> {
     let alloc = rt.alloc();
-    let cases: [(&[&[u8]], &[u64], [Option<usize>; 2], u8, &[u8], &[u8]); 4] = [
+    let cases: [(&str, &[&[u8]], &[u64], &[u8]); 3] = [
+        ("the script", PLAN, &[0], b"cannot load s\n"),
+        ("the table", PLAN, &[1], b"cannot load t\n"),
         (
-            &[b"plan", b"s", b"t"],
-            &[1],
-            [None, None],
-            3,
-            b"",
-            b"cannot load t\n",
-        ),
-        (
+            "no such file",
             &[b"plan", b"x", b"t"],
             &[],
-            [None, None],
-            3,
-            b"",
             b"cannot load x\n",
         ),
-        (
-            &[b"plan", b"s", b"t"],
-            &[],
-            [Some(5), None],
-            4,
-            b"secti",
-            b"",
-        ),
-        (&[], &[], [None, Some(3)], 4, b"", b"usa"),
     ];
-    for (words, loads, puts, status, text, line) in cases {
-        let words = names(alloc, words)?;
-        let script = Name::new(alloc, b"SECTIONS { .a : { *(.a) } }")?;
-        let files = two_files(alloc, script, b"section,f.o,.a,1,1,A\n")?;
-        let mut files = Shelf::new(files, Vec::from_slice(alloc, loads)?);
-        let mut out = tray(alloc, puts[0])?;
-        let mut err = tray(alloc, puts[1])?;
-        let answer = run(alloc, words.as_slice(), &mut files, &mut out, &mut err);
-        assert_eq!(rt; answer, status);
-        assert_eq!(rt; out.bytes(), text);
-        assert_eq!(rt; err.bytes(), line);
+    for (case, words, loads, line) in cases {
+        let (answer, out, err) = run_failing(alloc, words, ROW, loads, [None, None])?;
+        assert_eq!(rt; answer, 3, "{case}");
+        assert_eq!(rt; out.bytes(), b"".as_slice(), "{case}");
+        assert_eq!(rt; err.bytes(), line, "{case}");
+    }
+    Ok(())
+}
+
+#[test]
+fn failing_puts(rt: HostRuntime) -> Result<(), Fail> {
+    let alloc = rt.alloc();
+    let none: &[&[u8]] = &[];
+    let few: &[u8] = b"section,f.o,.a,1,1\n";
+    let cases: [(
+        &str,
+        &[&[u8]],
+        &[u8],
+        &[u64],
+        [Option<usize>; 2],
+        [&[u8]; 2],
+    ); 6] = [
+        ("the text", PLAN, ROW, &[], [Some(5), None], [b"secti", b""]),
+        ("usage", none, b"", &[], [None, Some(3)], [b"", b"usa"]),
+        ("usage at once", none, b"", &[], [None, Some(0)], [b"", b""]),
+        ("a record", PLAN, few, &[], [None, Some(4)], [b"", b"bad "]),
+        ("a load", PLAN, ROW, &[0], [None, Some(3)], [b"", b"can"]),
+        (
+            "a fault",
+            PLAN,
+            b"section,f.o,.a,1,3,A\n",
+            &[],
+            [None, Some(7)],
+            [b"", b"fault 5"],
+        ),
+    ];
+    for (case, words, table, loads, puts, [text, line]) in cases {
+        let (answer, out, err) = run_failing(alloc, words, table, loads, puts)?;
+        assert_eq!(rt; answer, 4, "{case}");
+        assert_eq!(rt; out.bytes(), text, "{case}");
+        assert_eq!(rt; err.bytes(), line, "{case}");
     }
     Ok(())
 }
@@ -211,6 +264,39 @@ pub(crate) fn planned(
     let mut err = tray(alloc, None)?;
     let answer = run(alloc, words.as_slice(), &mut files, &mut out, &mut err);
     Ok((answer, out, err))
+}
+
+// What a case is, a script, a table, and what is written: the text of a plan, or the line of a fault.
+pub(crate) type Case<'a> = (&'a str, &'a [u8], &'a [u8], &'a [u8]);
+
+// Each script has a plan, of this text.
+pub(crate) fn assert_texts(
+    rt: &impl Abort,
+    alloc: Global,
+    cases: &[Case<'_>],
+) -> Result<(), NoMemory> {
+    for (case, script, table, text) in cases {
+        let (answer, out, err) = planned(alloc, script, table)?;
+        assert_eq!(rt; err.bytes(), b"".as_slice(), "{case}");
+        assert_eq!(rt; answer, 0, "{case}");
+        assert_eq!(rt; out.bytes(), *text, "{case}");
+    }
+    Ok(())
+}
+
+// Each script has this fault.
+pub(crate) fn assert_faults(
+    rt: &impl Abort,
+    alloc: Global,
+    cases: &[Case<'_>],
+) -> Result<(), NoMemory> {
+    for (case, script, table, line) in cases {
+        let (answer, out, err) = planned(alloc, script, table)?;
+        assert_eq!(rt; err.bytes(), *line, "{case}");
+        assert_eq!(rt; answer, 1, "{case}");
+        assert_eq!(rt; out.bytes(), b"".as_slice(), "{case}");
+    }
+    Ok(())
 }
 
 #[test]
