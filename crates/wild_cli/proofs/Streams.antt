@@ -51,7 +51,7 @@ read_more (Some x) None c bs cs p q = absurd p
 read_more (Some x) (Some y) None bs cs p q = absurd q
 read_more (Some x) (Some y) (Some z) bs cs p q = p ∙ ap (λ l. bs ++ l) q ∙ sym (append_assoc bs cs z)
 
--- a read that gave nothing stands at the end
+-- a read that gave nothing is at the end
 pub read_all : (a b c : Option (List ℕ)) (bs : List ℕ) → Consumes a b bs → Consumes b c [] → IsAtEnd c → length bs ≤ max_length → IfSome a (λ content. (bs ≡ content) × (length content ≤ max_length))
 read_all None b c bs p q e h = tt
 read_all (Some x) None c bs p q e h = absurd p

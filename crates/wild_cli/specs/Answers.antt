@@ -20,6 +20,7 @@ PlanRefused script inputs (NotLoaded name) = ⊥
 PlanRefused script inputs (BadRecord index) = ⊥
 PlanRefused script inputs (TooLong name) = ⊥
 
+-- the text of the one plan that fits, or why there is none
 abbrev pub Plans : List ℕ → InputTable → Answer → Type 0
 Plans script inputs (Ok text) = (plan : Layout) × IsThePlan script inputs plan × (text ≡ plan_text plan)
 Plans script inputs (Err why) = PlanRefused script inputs why
@@ -33,13 +34,16 @@ LoadRefused name content Usage = ⊥
 LoadRefused name content (Fault fault) = ⊥
 LoadRefused name content (BadRecord index) = ⊥
 
+-- these bytes are the content, where it is told
 abbrev pub LoadTold : Option (List ℕ) → List ℕ → Type 0
 LoadTold content bytes = IfSome content (λ told. (bytes ≡ told) × (length told ≤ max_length))
 
+-- the content of a file of this name, or why it is not had
 abbrev pub LoadsFile : Name → Option (List ℕ) → Result (Vec ℕ Global) r.Refusal → Type 0
 LoadsFile name content (Ok bytes) = LoadTold content bytes.items
 LoadsFile name content (Err why) = LoadRefused name content why
 
+-- the count of failed loads, where this refusal came
 abbrev pub RefusalCounts : ℕ → ℕ → Option Name → r.Refusal → Type 0
 RefusalCounts before now failed (NotLoaded name) = Rose before now × (failed ≡ Some name)
 RefusalCounts before now failed (TooLong name) = now ≡ before
@@ -48,6 +52,7 @@ RefusalCounts before now failed Usage = now ≡ before
 RefusalCounts before now failed (Fault fault) = now ≡ before
 RefusalCounts before now failed (BadRecord index) = now ≡ before
 
+-- the count of failed loads after one load
 abbrev pub FileCounts : ℕ → ℕ → Option Name → Result (Vec ℕ Global) r.Refusal → Type 0
 FileCounts before now failed (Ok bytes) = now ≡ before
 FileCounts before now failed (Err why) = RefusalCounts before now failed why

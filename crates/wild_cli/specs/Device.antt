@@ -10,7 +10,7 @@ use Rattle.wild_cli.specs.declared.device.SinkFault.TheVariants as sink
 abbrev pub next_count : ℕ → ℕ
 next_count n = min (n + 1) (2 ^ 64 - 1)
 
--- a count has risen, or stands at its type's end
+-- a count has risen, or is at its type's end
 abbrev pub Rose : ℕ → ℕ → Type 0
 Rose before now = (before ≤ now) × (next_count before ≤ now)
 
@@ -19,6 +19,7 @@ pub record Failures : Type 0 where
   pub faults : ℕ
   pub failed : Option (List ℕ)
 
+-- how many bytes a file may have
 abbrev pub max_length : ℕ
 max_length = 2 ^ 24
 

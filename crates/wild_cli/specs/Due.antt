@@ -27,9 +27,11 @@ pub data Task : Type 0 where
   BadTable : ℕ → Task
   PlanOf : List ℕ → InputTable → Task
 
+-- the content is longer than a file may be
 abbrev pub is_too_long : List ℕ → Bool
 is_too_long content = nat_lt max_length (length content)
 
+-- the script is at hand, and this is what its table says
 abbrev pub task_of_inputs : List ℕ → Result InputTable ℕ → Task
 task_of_inputs script (Ok inputs) = PlanOf script inputs
 task_of_inputs script (Err index) = BadTable index
@@ -39,6 +41,7 @@ abbrev pub task_of_table : List ℕ → Name → Option (List ℕ) → Option Ta
 task_of_table script name None = None
 task_of_table script name (Some content) = Some (if is_too_long content then LongFile name else task_of_inputs script (table content))
 
+-- the script is this, and the table this, where they are told
 abbrev pub task_of_script : Name → Option (List ℕ) → Name → Option (List ℕ) → Option Task
 task_of_script name None table_name table_content = None
 task_of_script name (Some content) table_name table_content = if is_too_long content then Some (LongFile name) else task_of_table content table_name table_content
@@ -60,6 +63,7 @@ MeetsPlan script inputs (Err refusal.NoMemory) = ⊥
 MeetsPlan script inputs (Err (refusal.BadRecord index)) = ⊥
 MeetsPlan script inputs (Err (refusal.TooLong name)) = ⊥
 
+-- an answer meets a task
 abbrev pub Meets : Task → Answer → Type 0
 Meets NoCommand answer = answer ≡ Err refusal.Usage
 Meets (LongFile name) answer = answer ≡ Err (refusal.TooLong name)
@@ -80,6 +84,7 @@ pub record IsDue (held : Name → Option (List ℕ)) (command : Option Request) 
   pub asked : IsSome command
   pub settles : IfSome (task_of held command) (λ task. Settles task answer)
 
+-- the status that an answer comes with
 abbrev pub status_of_answer : Answer → ℕ
 status_of_answer (Ok text) = 0
 status_of_answer (Err why) = status_of why

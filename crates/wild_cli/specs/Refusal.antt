@@ -9,14 +9,17 @@ use Rattle.wild_table.specs.declared.table.TableFault.TheVariants as table
 use Rattle.wild_cli.specs.declared.refusal.Refusal as r
 use Rattle.wild_cli.specs.declared.refusal.Refusal.TheVariants.{Fault, Usage, NotLoaded, NoMemory, BadRecord, TooLong}
 
+-- the refusal that words come to
 abbrev pub refusal_of_words : WordsFault → r.Refusal
 refusal_of_words words.Usage = Usage
 refusal_of_words words.NoMemory = NoMemory
 
+-- the refusal that a table comes to
 abbrev pub refusal_of_table : TableFault → r.Refusal
 refusal_of_table (table.BadRecord index) = BadRecord index
 refusal_of_table table.NoMemory = NoMemory
 
+-- the status of a refusal
 abbrev pub status_of : r.Refusal → ℕ
 status_of (Fault fault) = 1
 status_of Usage = 2
@@ -25,6 +28,7 @@ status_of NoMemory = 5
 status_of (BadRecord index) = 6
 status_of (TooLong name) = 7
 
+-- what the words may be
 abbrev pub usage : List ℕ
 usage = codes "usage: plan SCRIPT TABLE [--kind=K] [--arch=A] [--endian=E] [--headers=N] [--start=NAME=N] | sample N"
 

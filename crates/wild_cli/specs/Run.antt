@@ -12,22 +12,24 @@ use Rattle.wild_cli.specs.declared.refusal.Refusal.TheVariants.{Fault, Usage, No
 
 -- ---- what the devices show
 
--- of the files: the count of faults at the call and behind it, and the name that failed last
+-- of the files: the count of faults at the call and after it, and the name that failed last
 pub record Loading : Type 0 where
   pub before : ℕ
   pub now : ℕ
   pub failed : Option Name
 
--- of a sink: the count of faults and what it got, at the call and behind it
+-- of a sink: the count of faults and what it got, at the call and after it
 pub record Putting : Type 0 where
   pub before : ℕ
   pub now : ℕ
   pub got_before : Option (List ℕ)
   pub got_now : Option (List ℕ)
 
+-- what the files show, by their counts at the call and after it
 abbrev pub loading : {D : Type 0} → (D → ℕ) → (D → Option Name) → D → D → Loading
 loading faults failed old new = record { before = faults old; now = faults new; failed = failed new }
 
+-- what a sink shows, by its counts and what it got at the call and after it
 abbrev pub putting : {D : Type 0} → (D → ℕ) → (D → Option (List ℕ)) → D → D → Putting
 putting faults got old new = record { before = faults old; now = faults new; got_before = got old; got_now = got new }
 
@@ -73,19 +75,20 @@ pub record Ends (held : Name → Option (List ℕ)) (command : Option Request) (
   pub cause : HasCause held command files answer
   pub written : Written answer out err status
 
--- the line of this refusal was written, or that of want of memory
+-- the line of this refusal was written, or the line that memory ran out
 abbrev pub Told : Putting → r.Refusal → ℕ → Type 0
 Told err why status = WroteLine err (line_of why) (status_of why) status ⊎ WroteLine err (line_of NoMemory) (status_of NoMemory) status
 
 -- ---- each status and its cause
 
--- an answer that meets the task comes with its status, but for a load that failed, a sink that failed and want of memory
+-- an answer that meets the task comes with its status, but for a load that failed, a sink that failed, and memory that ran out
 abbrev pub Comes : Option Task → Loading → Putting → Putting → ℕ → Type 0
 Comes wanted files out err status = IfSome wanted (λ task. (answer : Answer) → Meets task answer → (status ≡ status_of_answer answer)
     ⊎ ((status ≡ 3) × Rose files.before files.now)
     ⊎ ((status ≡ 4) × (Rose out.before out.now ⊎ Rose err.before err.now))
     ⊎ (status ≡ 5))
 
+-- what each status of a run says
 pub record Outcome (held : Name → Option (List ℕ)) (command : Option Request) (files : Loading) (out err : Putting) (status : ℕ) : Type 0 where
   -- 0: the text of the one plan that fits was put on out
   pub printed : status ≡ 0 → (text : List ℕ) × IsDue held command (Ok text) × Wrote out text × Wrote err []

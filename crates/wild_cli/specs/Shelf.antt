@@ -49,7 +49,7 @@ loaded shelf = record shelf { calls = next_count shelf.calls }
 abbrev pub failed_load : OnShelf → List ℕ → OnShelf
 failed_load shelf name = record shelf { calls = next_count shelf.calls; faults = next_count shelf.faults; failed = Some name }
 
--- the shelf behind a load that answered this
+-- the shelf after a load that answered this
 abbrev pub after_load : OnShelf → List ℕ → Result (Vec ℕ Global) LoadFault → OnShelf
 after_load shelf name (Ok bytes) = loaded shelf
 after_load shelf name (Err load.Failed) = failed_load shelf name
@@ -70,11 +70,11 @@ abbrev pub written_of : List FailingPut → ℕ → Option ℕ
 written_of [] call = None
 written_of (put ∷ puts) call = if put.call == call then Some put.written else written_of puts call
 
--- the tray behind one put more, which gave it these bytes and faults
+-- the tray after one put more, which gave it these bytes and faults
 abbrev pub with_put : OnTray → List ℕ → ℕ → OnTray
 with_put tray bytes faults = record tray { bytes = tray.bytes ++ bytes; calls = next_count tray.calls; faults = faults }
 
--- a put that is to fail does so behind that many bytes at most, and no other fails, unless memory ran out
+-- a put that is to fail does so after that many bytes at most, and no other fails, unless memory ran out
 abbrev pub AfterPut : OnTray → OnTray → List ℕ → Option ℕ → Result (Unit {0}) SinkFault → Type 0
 AfterPut old new piece None (Ok done) = new ≡ with_put old piece old.faults
 AfterPut old new piece None (Err sink.Failed) = ⊥

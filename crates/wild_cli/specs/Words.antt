@@ -6,6 +6,7 @@ use Rattle.wild_cli.specs.declared.words.Request.TheVariants.{Plan}
 use Rattle.wild_cli.specs.declared.words.WordsFault.{WordsFault}
 use Rattle.wild_cli.specs.declared.words.WordsFault.TheVariants.{Usage, NoMemory}
 
+-- the word is `plan`
 abbrev pub is_plan : List ℕ → Bool
 is_plan word = bytes_eq word (codes "plan")
 

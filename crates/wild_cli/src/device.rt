@@ -81,7 +81,7 @@ pub trait Sink {
     /// How often a put has failed, up to 2 ^ 64 - 1.
     ghost faults: { Self → ℕ };
 
-    /// Puts the bytes behind those that were put before.
+    /// Puts the bytes after those that were put before.
     fn put(&mut self, piece: &[u8]) -> Result<(), SinkFault>
         ensures got { Puts (got self.old) (got self.new) piece.now result }
         ensures cause { SinkCounts (faults self.old) (faults self.new) result };

@@ -130,7 +130,7 @@ impl<W: Write> Sink for StreamSink<W> {
     }
 }
 
-// Writes the whole piece, or fails behind a prefix of it.
+// Writes the whole piece, or fails after a prefix of it.
 #[tactic(auto, using(crate::proofs::Streams::writes))]
 fn write_piece<W: Write>(stream: &mut W, piece: &[u8]) -> Result<(), SinkFault>
     ensures { Puts (W.contents stream.old) (W.contents stream.new) piece.now result }

@@ -54,7 +54,7 @@ impl Files for Shelf {
 
     ghost failed = { λ shelf. shelf.failed };
 
-    /// Behind 2 ^ 64 - 1 calls the number of a call stays the same.
+    /// After 2 ^ 64 - 1 calls the number of a call stays the same.
     fn load(&mut self, alloc: Global, name: &Name) -> Result<Vec<u8>, LoadFault>
         ensures held { find_content self.new.files ≡ find_content self.old.files }
         ensures told { IfSome (find_content self.old.files name.now) (λ content. Loads content result) }
@@ -145,7 +145,7 @@ impl Sink for Tray {
 
     ghost faults = { λ tray. tray.faults };
 
-    /// A put that fails writes its number of bytes before, or the whole piece where that is shorter. Behind 2 ^ 64 - 1
+    /// A put that fails writes its number of bytes before, or the whole piece where that is shorter. After 2 ^ 64 - 1
     /// calls the number of a call stays the same.
     fn put(&mut self, piece: &[u8]) -> Result<(), SinkFault>
         ensures got { Puts (Some self.old.bytes) (Some self.new.bytes) piece.now result }

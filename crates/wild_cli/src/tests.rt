@@ -144,7 +144,7 @@ fn two_files(alloc: Global, script: Name, table: &[u8]) -> Result<Vec<ShelfFile>
     Ok(files)
 }
 
-// A tray whose first put fails behind this many bytes, where there is a number.
+// A tray whose first put fails after this many bytes, where there is a number.
 fn tray(alloc: Global, written: Option<usize>) -> Result<Tray, NoMemory> {
     let mut failing = Vec::new(alloc);
     if let Some(written) = written {

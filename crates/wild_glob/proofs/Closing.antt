@@ -1,4 +1,4 @@
--- Where the closing bracket of a class stands.
+-- Where the closing bracket of a class is.
 use Rattle.std.proofs.Common.{◌≡◌, ℕ, ◌+◌, Bool, false, List, [], ◌∷◌, ◌++◌, length, Some, refl, sym, ◌∙◌, ap, eqb, arith, add-zero, ⊎_elim}
 use Rattle.std.specs.List.{list_any, position_from}
 use Rattle.std.proofs.lemmas.Bool.{or_parts}
@@ -17,7 +17,7 @@ position_of_bracket (c ∷ cs) rest i e =
 some_same : (a b : ℕ) → Some a ≡ Some b → a ≡ b
 some_same a b e = cc
 
--- what stands before the first closing bracket, and behind it
+-- what is before the first closing bracket, and after it
 pub record Splits (cs : List ℕ) (n : ℕ) : Type 0 where
   pub front : List ℕ
   pub rest : List ℕ

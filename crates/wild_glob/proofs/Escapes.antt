@@ -1,4 +1,4 @@
--- One byte of a pattern, and what stands behind it.
+-- One byte of a pattern, and what is after it.
 use Rattle.std.proofs.Common.{◌≡◌, ◌≢◌, ℕ, ◌+◌, ◌<◌, Bool, true, false, List, [], ◌∷◌, ◌++◌, length, drop, get_or, eqb, refl, sym, ◌∙◌, append_assoc, ap}
 use Rattle.std.specs.Prelude.{if◌then◌else◌, not, ◌&&◌}
 use Rattle.std.specs.List.{list_any}

@@ -19,7 +19,7 @@ abbrev pub begins_star : List ℕ → Bool
 begins_star [] = false
 begins_star (c ∷ cs) = eqb c star
 
--- a spelling of a piece, and what stands behind it
+-- a spelling of a piece, and what is after it
 pub record Begins (cs : List ℕ) (p : Piece) (n : ℕ) : Type 0 where
   pub first : List ℕ
   pub rest : List ℕ
@@ -48,7 +48,7 @@ from_escaped : (cs : List ℕ) (f : First) → escaped cs ≡ Some f → Begins 
 from_escaped [] f e = cc
 from_escaped (c ∷ cs) f e = another_first (backslash ∷ c ∷ cs) _ f e (record { first = backslash ∷ c ∷ []; rest = cs; whole = refl; is = inl refl; long = refl; apart = λ h. cc })
 
--- how many characters stand between `[` and the items
+-- how many characters are between `[` and the items
 abbrev pub before : Bool → ℕ
 before false = 0
 before true = 1
@@ -219,7 +219,7 @@ spelled (p ∷ ps) cs e =
     (b.first, (b.rest, (b.whole, subst (λ (q : Piece). IsSpelling q b.first) piece b.is, apart_behind p ps b.rest (λ a. b.apart (piece ∙ a)) tail, tail))))
     (empty_or_takes cs (p ∷ ps) e)
 
--- behind a `*` that stands apart comes no other
+-- after a `*` that is apart comes no other
 no_star_behind : (p : Piece) (ps : List Piece) (rest : List ℕ) → p ≡ AnyRun → IsApart p ps → Spells ps rest → begins_star rest ≡ false
 no_star_behind p [] rest e a h = ap begins_star h
 no_star_behind p (q ∷ qs) rest e a h =

@@ -1,4 +1,4 @@
--- The first piece of a text, and the pieces behind it.
+-- The first piece of a text, and the pieces after it.
 use Rattle.std.proofs.Common.{◌≡◌, ◌≤◌, length, arith, ℕ, zero, suc, List, [], ◌∷◌, ◌++◌, drop, Option, Some, None, refl, sym, ◌∙◌, ap, append_assoc}
 use Rattle.wild_glob.specs.declared.piece.First.{First}
 use Rattle.wild_glob.specs.declared.piece.Piece.{Piece}

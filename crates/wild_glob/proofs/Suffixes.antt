@@ -38,7 +38,7 @@ suffix_wider : (f : List ℕ → Bool) (cs : List ℕ) → some_suffix f (behind
 suffix_wider f [] e = e
 suffix_wider f (c ∷ cs) e = suffix_later f c cs e
 
--- where a suffix begins with a character that the piece admits, the rest of it is a suffix behind the first character
+-- where a suffix begins with a character that the piece admits, the rest of it is a suffix after the first character
 suffix_one : (p : Piece) (f : List ℕ → Bool) (cs : List ℕ) → some_suffix (one_then p f) cs ≡ true → some_suffix f (behind_first cs) ≡ true
 suffix_one p f [] e = cc
 suffix_one p f (c ∷ cs) e =

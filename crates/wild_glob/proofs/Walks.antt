@@ -30,7 +30,7 @@ comes_one ps text p left qs rest later c so e single_p first shorter admitted = 
   shorter = omega (arith, so.shorter);
 }
 
--- a `*` behind a run that fits here
+-- a `*` after a run that fits here
 pub passes_run : (ps : List Piece) (text : List ℕ) (left : List Piece) (rest : List ℕ) → RunsTo ps text left rest → 1 ≤ length left
     → matches ps (chars text) ≡ some_suffix (matches (drop 1 left)) (chars rest)
 passes_run ps text [] rest run h = absurd (omega arith)

@@ -1,4 +1,4 @@
--- What stands between the brackets of a class.
+-- What is between the brackets of a class.
 use Rattle.std.specs.Prelude.{ℕ, ◌==◌, if◌then◌else◌, List, [], ◌∷◌, Option, None}
 use Rattle.std.specs.List.{position_from}
 use Rattle.wild_glob.specs.Character.{close_bracket, dash}

@@ -11,7 +11,7 @@ abbrev pub opening : Bool → List ℕ
 opening false = open_bracket ∷ []
 opening true = open_bracket ∷ exclamation_mark ∷ []
 
--- what may stand between the brackets: one character or more, no `]` behind the first one, and behind a bare `[` no `!`
+-- what may be between the brackets: one character or more, no `]` after the first one, and after a bare `[` no `!`
 -- in first place
 abbrev pub IsContent : Bool → List ℕ → Type 0
 IsContent negated [] = ⊥
@@ -34,7 +34,7 @@ abbrev pub IsApart : Piece → List Piece → Type 0
 IsApart p [] = Unit {0}
 IsApart p (q ∷ qs) = p ≡ AnyRun → q ≢ AnyRun
 
--- what spells pieces: a spelling of each, one behind the other
+-- what spells pieces: a spelling of each, one after the other
 abbrev pub Spells : List Piece → List ℕ → Type 0
 Spells [] cs = cs ≡ []
 Spells (p ∷ ps) cs = (first : List ℕ) × ((rest : List ℕ) × ((cs ≡ first ++ rest) × IsSpelling p first × IsApart p ps × Spells ps rest))

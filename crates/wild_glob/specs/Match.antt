@@ -15,6 +15,7 @@ contains (Range a b) c = nat_le a c && nat_le c b
 abbrev pub lists : List ClassItem → ℕ → Bool
 lists items c = list_any (λ item. contains item c) items
 
+-- whether a piece is `*`
 abbrev pub is_any_run : Piece → Bool
 is_any_run AnyRun = true
 is_any_run AnyCharacter = false
@@ -38,7 +39,7 @@ abbrev pub one_then : Piece → (List ℕ → Bool) → List ℕ → Bool
 one_then p rest [] = false
 one_then p rest (c ∷ cs) = admits p c && rest cs
 
--- whether pieces match a text: no piece matches the empty one; a `*` matches where the pieces behind it match some
+-- whether pieces match a text: no piece matches the empty one; a `*` matches where the pieces after it match some
 -- suffix, and any other piece takes one character
 abbrev pub matches : List Piece → List ℕ → Bool
 matches [] [] = true

@@ -1,8 +1,7 @@
 //! Backslashes in patterns, and what kind of pattern they make.
 
-ghost use Rattle.std.specs.Prelude.{◌≡◌, ◌==◌, ◌&&◌, not, IfOk};
-ghost use Rattle.wild_glob.specs.Character.{backslash};
-ghost use Rattle.wild_glob.specs.Escape.{has_unescaped, pattern_type, without_escapes};
+ghost use Rattle.std.specs.Prelude.{◌≡◌, IfOk};
+ghost use Rattle.wild_glob.specs.Escape.{has_unescaped, pattern_type, escapes, ends_in_backslash, without_escapes};
 
 use std::alloc::Global;
 use wild_names::{Name, NoMemory};
@@ -12,7 +11,7 @@ use wild_names::{Name, NoMemory};
 pub enum GlobPatternType {
     /// No wildcard and no backslash: the name itself.
     Exact,
-    /// No wildcard, but a backslash: the name behind its escapes.
+    /// No wildcard, but a backslash: the name after its escapes.
     EscapedExact,
     /// Wildcards, a `*` among them.
     Star,
@@ -53,12 +52,23 @@ fn has_unescaped(pattern: &[u8], wanted: u8) -> bool
 
 // Whether a byte, itself escaped or not, escapes the next one.
 fn escapes(escaped: bool, byte: u8) -> bool
-    ensures { result ≡ (not escaped && byte == backslash) }
+    ensures { result ≡ escapes escaped byte }
 {
     !escaped && byte == b'\\'
 }
 
-/// The bytes of a pattern with each backslash dropped and the byte behind it kept. A last backslash is kept. Fails
+/// Whether a backslash that is itself not escaped is last.
+pub fn ends_in_backslash(pattern: &[u8]) -> bool
+    ensures { result ≡ ends_in_backslash pattern.now }
+{
+    let mut escaped = false;
+    for byte in pattern {
+        escaped = escapes(escaped, *byte);
+    }
+    escaped
+}
+
+/// The bytes of a pattern with each backslash dropped and the byte after it kept. A last backslash is kept. Fails
 /// where memory runs out.
 pub fn unescape_pattern(alloc: Global, pattern: &[u8]) -> Result<Name, NoMemory>
     ensures { IfOk result (λ name. name ≡ without_escapes pattern.now) }

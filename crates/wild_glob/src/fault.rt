@@ -13,7 +13,7 @@ pub enum PatternFault {
     Empty,
     /// The bytes are not UTF-8.
     NotUtf8,
-    /// The text has no reading: two `*` pieces stand side by side, a backslash stands last, or a class has no closing
+    /// The text has no reading: two `*` pieces are side by side, a backslash is last, or a class has no closing
     /// bracket.
     Shape,
     /// Memory ran out.

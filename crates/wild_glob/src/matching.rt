@@ -21,7 +21,7 @@ fn is_end(text: &str) -> bool
     split_first(text).is_none()
 }
 
-// The first piece and those behind it, unless it is `*`.
+// The first piece and those after it, unless it is `*`.
 fn split_single(pieces: &[Piece]) -> Option<(&Piece, &[Piece])>
     ensures { MatchOption result (StopsAtRun pieces.now) (λ first. (pieces.now ≡ first.0.now ∷ first.1.now) × (spec.is_any_run first.0.now ≡ false)) }
 {

@@ -104,6 +104,6 @@ impl ClassItem {
 #[derive(Drop)]
 pub struct First {
     pub piece: Piece,
-    /// How many characters it has behind its first one.
+    /// How many characters it has after its first one.
     pub behind: usize,
 }

@@ -4,30 +4,47 @@ use std::process::Abort;
 use std::test::Fail;
 
 #[test]
-fn kinds(rt: HostRuntime) -> Result<(), Fail> {
-    for (pattern, wanted) in [
-        (b"".as_slice(), GlobPatternType::Exact),
-        (b".text", GlobPatternType::Exact),
-        (b"foo\\*bar", GlobPatternType::EscapedExact),
-        (b"a\\", GlobPatternType::EscapedExact),
-        (b".data.[0-9]", GlobPatternType::NonStar),
-        (b"\\*?", GlobPatternType::NonStar),
-        (b"?\\\\*", GlobPatternType::Star),
+fn kinds(rt: HostRuntime) {
+    for (case, pattern, wanted) in [
+        ("no bytes", b"".as_slice(), GlobPatternType::Exact),
+        ("a plain name", b".text", GlobPatternType::Exact),
+        (
+            "an escaped star",
+            b"foo\\*bar",
+            GlobPatternType::EscapedExact,
+        ),
+        ("a last backslash", b"a\\", GlobPatternType::EscapedExact),
+        ("a class", b".data.[0-9]", GlobPatternType::NonStar),
+        (
+            "an escaped star and a question mark",
+            b"\\*?",
+            GlobPatternType::NonStar,
+        ),
+        (
+            "a star after an escaped backslash",
+            b"?\\\\*",
+            GlobPatternType::Star,
+        ),
     ] {
-        assert!(rt; analyze_glob_pattern(pattern) == wanted);
+        assert!(rt; analyze_glob_pattern(pattern) == wanted, "{case}");
     }
-    Ok(())
 }
 
 #[test]
 fn escapes(rt: HostRuntime) -> Result<(), Fail> {
-    for (pattern, wanted) in [
-        (b"a\\*".as_slice(), b"a*".as_slice()),
-        (b"a\\", b"a\\"),
-        (b"\\\\\\x", b"\\x"),
+    for (case, pattern, wanted, is_open) in [
+        (
+            "an escaped star",
+            b"a\\*".as_slice(),
+            b"a*".as_slice(),
+            false,
+        ),
+        ("a last backslash", b"a\\", b"a\\", true),
+        ("an escaped backslash", b"\\\\\\x", b"\\x", false),
     ] {
         let name = unescape_pattern(rt.alloc(), pattern)?;
-        assert!(rt; name.bytes() == wanted);
+        assert!(rt; name.bytes() == wanted, "{case}");
+        assert!(rt; ends_in_backslash(pattern) == is_open, "{case}");
     }
     Ok(())
 }
@@ -43,37 +60,68 @@ fn is_match(rt: &impl Abort, alloc: Global, pattern: &[u8], text: &str) -> bool 
 
 #[test]
 fn names(rt: HostRuntime) {
-    for (pattern, text, wanted) in [
-        (b"foo\\*bar".as_slice(), "foo*bar", true),
-        (b"foo\\*bar", "fooxbar", false),
-        (b".mydata.[0-9]", ".mydata.5", true),
-        (b".mydata.[0-9]", ".mydata.10", false),
-        (b".text.*.foo", ".text.bar.foo", true),
-        (b".text.*.foo", ".text.bar.baz", false),
-        (b"*.foo*o", ".foo.foo", true),
-        (b"a*", "a", true),
-        (b"*", "", true),
-        (b"?", "", false),
+    for (case, pattern, text, wanted) in [
+        (
+            "an escaped star is itself",
+            b"foo\\*bar".as_slice(),
+            "foo*bar",
+            true,
+        ),
+        (
+            "an escaped star is no other",
+            b"foo\\*bar",
+            "fooxbar",
+            false,
+        ),
+        ("a class", b".mydata.[0-9]", ".mydata.5", true),
+        (
+            "a class is one character",
+            b".mydata.[0-9]",
+            ".mydata.10",
+            false,
+        ),
+        (
+            "a star between names",
+            b".text.*.foo",
+            ".text.bar.foo",
+            true,
+        ),
+        (
+            "another name at the end",
+            b".text.*.foo",
+            ".text.bar.baz",
+            false,
+        ),
+        ("the second of two places", b"*.foo*o", ".foo.foo", true),
+        ("a star after all", b"a*", "a", true),
+        ("a star alone", b"*", "", true),
+        ("a character of nothing", b"?", "", false),
     ] {
-        assert!(rt; is_match(&rt, rt.alloc(), pattern, text) == wanted);
+        assert!(rt;
+            is_match(&rt, rt.alloc(), pattern, text) == wanted,
+            "{case}"
+        );
     }
 }
 
 #[test]
 fn classes(rt: HostRuntime) {
-    for (pattern, text, wanted) in [
-        (b"[!a]".as_slice(), "b", true),
-        (b"[!a]", "a", false),
-        (b"[!a]", "!", true),
-        (b"[]a]", "]", true),
-        (b"[]a]", "a", true),
-        (b"[a-]", "-", true),
-        (b"[a-]", "b", false),
-        (b"[z-a]", "m", false),
-        (b"[!z-a]", "m", true),
-        (b"[\\]", "\\", true),
+    for (case, pattern, text, wanted) in [
+        ("negated, another", b"[!a]".as_slice(), "b", true),
+        ("negated, the one", b"[!a]", "a", false),
+        ("negated, its mark", b"[!a]", "!", true),
+        ("a bracket in first place", b"[]a]", "]", true),
+        ("what comes after it", b"[]a]", "a", true),
+        ("a dash in last place", b"[a-]", "-", true),
+        ("which makes no range", b"[a-]", "b", false),
+        ("a reversed range", b"[z-a]", "m", false),
+        ("a reversed range, negated", b"[!z-a]", "m", true),
+        ("a backslash", b"[\\]", "\\", true),
     ] {
-        assert!(rt; is_match(&rt, rt.alloc(), pattern, text) == wanted);
+        assert!(rt;
+            is_match(&rt, rt.alloc(), pattern, text) == wanted,
+            "{case}"
+        );
     }
 }
 
@@ -87,17 +135,17 @@ fn wide_characters(rt: HostRuntime) {
 
 #[test]
 fn faults(rt: HostRuntime) {
-    for (pattern, wanted) in [
-        (b"".as_slice(), PatternFault::Empty),
-        (b"a\xff", PatternFault::NotUtf8),
-        (b"a**", PatternFault::Shape),
-        (b"a\\", PatternFault::Shape),
-        (b"[a", PatternFault::Shape),
-        (b"[]", PatternFault::Shape),
-        (b"[!]", PatternFault::Shape),
+    for (case, pattern, wanted) in [
+        ("no bytes", b"".as_slice(), PatternFault::Empty),
+        ("not UTF-8", b"a\xff", PatternFault::NotUtf8),
+        ("two stars", b"a**", PatternFault::Shape),
+        ("a last backslash", b"a\\", PatternFault::Shape),
+        ("an open class", b"[a", PatternFault::Shape),
+        ("an empty class", b"[]", PatternFault::Shape),
+        ("an empty negated class", b"[!]", PatternFault::Shape),
     ] {
         let compiled = compile_glob_pattern(rt.alloc(), pattern);
-        assert!(rt; compiled.err() == Some(wanted));
+        assert!(rt; compiled.err() == Some(wanted), "{case}");
     }
 }
 

@@ -5,9 +5,17 @@ use Rattle.std.specs.List.{find, range_with_len}
 use Rattle.wild_ids.specs.declared.alignment.AlignmentFault.{AlignmentFault}
 use Rattle.wild_ids.specs.declared.alignment.AlignmentFault.TheVariants.{NotPowerOfTwo, TooLarge}
 
--- the exponent of a power of two up to 2 ^ 21
+-- the exponent of the largest alignment
+abbrev pub max_exponent : ℕ
+max_exponent = 21
+
+-- how many alignments there are
+abbrev pub alignment_count : ℕ
+alignment_count = max_exponent + 1
+
+-- the exponent of an alignment of so many bytes, if there is one
 unfoldable pub exponent_of : ℕ → Option ℕ
-exponent_of raw = find (λ e. raw == 2 ^ e) (range_with_len 0 22)
+exponent_of raw = find (λ e. raw == 2 ^ e) (range_with_len 0 alignment_count)
 
 -- the value rounded up to a multiple of the size
 abbrev pub rounded_up : ℕ → ℕ → ℕ
@@ -41,12 +49,12 @@ pub record IsLeastCongruent (size reference bound m : ℕ) : Type 0 where
 
 -- what `new` answers for a number of bytes
 abbrev pub NewAlignment : ℕ → Result ℕ AlignmentFault → Type 0
-NewAlignment raw (Ok e) = (raw ≡ 2 ^ e) × (e ≤ 21)
+NewAlignment raw (Ok e) = (raw ≡ 2 ^ e) × (e ≤ max_exponent)
 NewAlignment raw (Err NotPowerOfTwo) = (k : ℕ) → raw ≢ 2 ^ k
-NewAlignment raw (Err TooLarge) = (k : ℕ) × (raw ≡ 2 ^ k) × (21 < k)
+NewAlignment raw (Err TooLarge) = (k : ℕ) × (raw ≡ 2 ^ k) × (max_exponent < k)
 
 -- what `from_exponent` answers
 abbrev pub FromExponent : ℕ → Result ℕ AlignmentFault → Type 0
-FromExponent exponent (Ok e) = (e ≡ exponent) × (e ≤ 21)
+FromExponent exponent (Ok e) = (e ≡ exponent) × (e ≤ max_exponent)
 FromExponent exponent (Err NotPowerOfTwo) = ⊥
-FromExponent exponent (Err TooLarge) = 21 < exponent
+FromExponent exponent (Err TooLarge) = max_exponent < exponent

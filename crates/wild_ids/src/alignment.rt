@@ -2,13 +2,16 @@
 
 ghost use Rattle.std.specs.Prelude.{◌≡◌, ℕ, ◌-◌, ◌%◌, ◌^◌, ◌<◌, ◌≤◌, MatchOption, Some, SomeIff, decimal};
 ghost use Rattle.std.specs.Result.{result_ok};
-ghost use Rattle.wild_ids.specs.Alignment.{rounded_up, rounded_down, moved_to, exponent_of, IsLeastMultiple, IsGreatestMultiple, IsLeastCongruent, NewAlignment, FromExponent};
+ghost use Rattle.wild_ids.specs.Alignment.{max_exponent, rounded_up, rounded_down, moved_to, exponent_of, IsLeastMultiple, IsGreatestMultiple, IsLeastCongruent, NewAlignment, FromExponent};
 
 use std::fmt;
 use std::marker::Model;
 
 /// How many alignments there are.
 pub const NUM_ALIGNMENTS: usize = 22;
+
+/// The exponent of the largest alignment.
+pub(crate) const MAX_EXPONENT: u32 = 21;
 
 /// An alignment: a power of two up to 2 ^ 21. Contracts see it as the exponent.
 #[derive(Debug, Clone, Copy, PartialEq, Eq, PartialOrd, Ord)]
@@ -18,12 +21,13 @@ pub struct Alignment {
 
 impl Model for Alignment {
     ghost use Rattle.std.specs.Prelude.{ℕ, ◌≤◌};
+    ghost use Rattle.wild_ids.specs.Alignment.{max_exponent};
 
     ghost Value = { ℕ };
 
     ghost view = { λ a. a.exponent };
 
-    ghost invariant = { λ a. a.exponent ≤ 21 };
+    ghost invariant = { λ a. a.exponent ≤ max_exponent };
 
     ghost inverse = { λ e. record { exponent = e } };
 }
@@ -40,7 +44,9 @@ pub enum AlignmentFault {
 pub const MIN: Alignment = Alignment { exponent: 0 };
 
 /// The largest alignment.
-pub const MAX: Alignment = Alignment { exponent: 21 };
+pub const MAX: Alignment = Alignment {
+    exponent: MAX_EXPONENT as u8,
+};
 
 /// That of entries in the section `.gnu.version`.
 pub const VERSYM: Alignment = Alignment { exponent: 1 };
@@ -116,7 +122,7 @@ impl Alignment {
     pub fn from_exponent(exponent: u32) -> Result<Alignment, AlignmentFault>
         ensures { FromExponent exponent result }
     {
-        if exponent > 21 {
+        if exponent > MAX_EXPONENT {
             return Err(AlignmentFault::TooLarge);
         }
         Ok(Alignment {
@@ -127,7 +133,7 @@ impl Alignment {
     /// The exponent.
     pub(crate) fn exponent(self) -> u32
         ensures value { result ≡ self }
-        ensures supported { self ≤ 21 }
+        ensures supported { self ≤ max_exponent }
     {
         u32::from(self.exponent)
     }
@@ -135,7 +141,7 @@ impl Alignment {
     /// How many bytes it is.
     pub fn value(self) -> u64
         ensures value { result ≡ 2 ^ self }
-        ensures supported { self ≤ 21 }
+        ensures supported { self ≤ max_exponent }
     {
         1 << self.exponent
     }
@@ -174,6 +180,7 @@ impl Alignment {
     {
         value.checked_next_multiple_of(self.value())
     }
+
     /// The greatest multiple that is not above the value.
     pub fn align_down(self, value: u64) -> u64
         ensures value { result ≡ rounded_down (2 ^ self) value }

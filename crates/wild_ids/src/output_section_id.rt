@@ -2,10 +2,12 @@
 
 ghost use Rattle.std.specs.Prelude.{◌≡◌, ℕ, ◌+◌, ◌-◌, ◌<◌, ◌≤◌, ◌^◌, ◌↔◌, IsTrue, Some, decimal, slice_index};
 ghost use Rattle.std.specs.Iterator.{YieldsFirst, item_count};
+ghost use Rattle.std.specs.List.{range_with_len};
 ghost use Rattle.wild_ids.specs.CommonSections.{common_number};
-ghost use Rattle.wild_ids.specs.Parts.{base_part, part_count, part_for, section_with, SectionFits, numbers_from};
+ghost use Rattle.wild_ids.specs.Alignment.{max_exponent};
+ghost use Rattle.wild_ids.specs.Parts.{base_part, part_count, part_for, section_with, SectionFits};
 
-use crate::alignment::{Alignment, NUM_ALIGNMENTS};
+use crate::alignment::{Alignment, MAX_EXPONENT, NUM_ALIGNMENTS};
 use crate::part_id::PartId;
 use crate::platform::PlatformIds;
 use std::fmt;
@@ -28,7 +30,7 @@ impl Model for OutputSectionId {
     ghost inverse = { λ n. record { 0 = n } };
 }
 
-/// The section of what stands in no output section.
+/// The section of what is in no output section.
 pub const UNMAPPED: OutputSectionId = OutputSectionId(0);
 
 /// The section of the file header.
@@ -155,7 +157,8 @@ impl OutputSectionId {
         match P::single_part_id(self) {
             Some(part) => part,
             None => PartId(
-                P::NUM_SINGLE_PART_SECTIONS + 22 * (self.0 - P::NUM_SINGLE_PART_SECTIONS),
+                P::NUM_SINGLE_PART_SECTIONS
+                    + NUM_ALIGNMENTS as u32 * (self.0 - P::NUM_SINGLE_PART_SECTIONS),
             ),
         }
     }
@@ -176,11 +179,11 @@ impl OutputSectionId {
     /// These parts, one by one.
     pub fn parts<P: PlatformIds>(self) -> PartIdIterator
         requires { SectionFits P.NUM_SINGLE_PART_SECTIONS self }
-        ensures range { result ≡ numbers_from
+        ensures range { result ≡ range_with_len
             (base_part P.NUM_SINGLE_PART_SECTIONS P.part_of self)
             (part_count P.NUM_SINGLE_PART_SECTIONS self) }
-        ensures falling { P.NUM_SINGLE_PART_SECTIONS ≤ self → (k : ℕ) → k ≤ 21
-            → slice_index result k ≡ part_for P.NUM_SINGLE_PART_SECTIONS self (21 - k) }
+        ensures falling { P.NUM_SINGLE_PART_SECTIONS ≤ self → (k : ℕ) → k ≤ max_exponent
+            → slice_index result k ≡ part_for P.NUM_SINGLE_PART_SECTIONS self (max_exponent - k) }
         ensures back { (k : ℕ) → k < part_count P.NUM_SINGLE_PART_SECTIONS self
             → section_with P.NUM_SINGLE_PART_SECTIONS P.section_of (slice_index result k) ≡ self }
     {
@@ -199,7 +202,7 @@ impl OutputSectionId {
         ensures back { section_with P.NUM_SINGLE_PART_SECTIONS P.section_of result ≡ self }
     {
         let base = self.base_part_id::<P>();
-        PartId(base.0 + (21 - alignment.exponent()))
+        PartId(base.0 + (MAX_EXPONENT - alignment.exponent()))
     }
 }
 
@@ -212,11 +215,11 @@ pub struct PartIdIterator {
 
 impl Model for PartIdIterator {
     ghost use Rattle.std.specs.Prelude.{ℕ, List, ◌-◌};
-    ghost use Rattle.wild_ids.specs.Parts.{numbers_from};
+    ghost use Rattle.std.specs.List.{range_with_len};
 
     ghost Value = { List ℕ };
 
-    ghost view = { λ left. numbers_from left.next (left.end - left.next) };
+    ghost view = { λ left. range_with_len left.next (left.end - left.next) };
 }
 
 impl Iterator for PartIdIterator {

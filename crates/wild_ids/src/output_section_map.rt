@@ -29,16 +29,16 @@ impl<T> Model for OutputSectionMap<T> {
     ghost invariant = { λ map. length map.values.items < 2 ^ 32 };
 }
 
-impl<T: Default + Drop> OutputSectionMap<T> {
+impl<T: Default> OutputSectionMap<T> {
     /// A map of so many sections, fewer than 2 ^ 32, each with the default value. Fails where memory runs out.
     pub fn with_size(alloc: Global, len: usize) -> Result<OutputSectionMap<T>, NoMemory>
         requires { len < 2 ^ 32 }
         ensures len { IfOk result (λ map. length map ≡ len) }
         ensures defaults { IfOk result (λ map. All T.is_default map) }
     {
-        let mut values = Vec::new(alloc);
+        let mut values = Vec::with_capacity(alloc, len)?;
         for _ in 0..len {
-            values.push(T::default())?;
+            values.push_reserved(T::default());
         }
         Ok(OutputSectionMap { values })
     }
@@ -142,7 +142,7 @@ impl<T> OutputSectionMap<T> {
 impl<T: Drop> OutputSectionMap<T> {
     /// The closure's answers at the values, in the order of ids. Where memory runs out it fails, and the values are
     /// dropped.
-    pub fn into_map<U: Drop, F: FnMut(T) -> U>(
+    pub fn into_map<U, F: FnMut(T) -> U>(
         self,
         alloc: Global,
         cb: F,
@@ -155,7 +155,7 @@ impl<T: Drop> OutputSectionMap<T> {
     }
 }
 
-fn map_each<T: Drop, U: Drop, F: FnMut(T) -> U>(
+fn map_each<T: Drop, U, F: FnMut(T) -> U>(
     alloc: Global,
     values: Vec<T>,
     mut cb: F,
@@ -164,9 +164,9 @@ fn map_each<T: Drop, U: Drop, F: FnMut(T) -> U>(
     ensures len { IfOk result (λ all. length all.items ≡ length values.items) }
     ensures calls { IfOk result (λ all. (last : F) × MapsEach F.step cb values.items all.items last) }
 {
-    let mut all = Vec::new(alloc);
+    let mut all = Vec::with_capacity(alloc, values.len())?;
     for value in values {
-        all.push(cb(value))?;
+        all.push_reserved(cb(value));
     }
     Ok(all)
 }

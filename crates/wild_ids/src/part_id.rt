@@ -3,6 +3,7 @@
 ghost use Rattle.std.specs.Prelude.{◌≡◌, ◌+◌, ◌<◌, ◌^◌, Some, decimal};
 ghost use Rattle.wild_ids.specs.Parts.{section_with};
 
+use crate::alignment::NUM_ALIGNMENTS;
 use crate::output_section_id::OutputSectionId;
 use crate::platform::PlatformIds;
 use std::fmt;
@@ -10,7 +11,7 @@ use std::marker::Model;
 
 /// The id of a part of an output section. Contracts see it as the number.
 ///
-/// Single parts come first, then the parts of regular sections: 22 for each, one for each alignment.
+/// Single parts come first, then the parts of regular sections: one for each alignment.
 #[derive(Debug, Clone, Copy, PartialEq, Eq, PartialOrd, Ord, Hash)]
 pub struct PartId(pub u32);
 
@@ -26,7 +27,7 @@ impl Model for PartId {
     ghost inverse = { λ n. record { 0 = n } };
 }
 
-/// The part of what stands in no output section.
+/// The part of what is in no output section.
 pub const UNMAPPED: PartId = PartId(0);
 
 /// The part of the file header.
@@ -96,12 +97,13 @@ impl PartId {
         match P::single_part_output_section_id(self) {
             Some(section) => section,
             None => OutputSectionId(
-                P::NUM_SINGLE_PART_SECTIONS + (self.0 - P::NUM_SINGLE_PART_SECTIONS) / 22,
+                P::NUM_SINGLE_PART_SECTIONS
+                    + (self.0 - P::NUM_SINGLE_PART_SECTIONS) / NUM_ALIGNMENTS as u32,
             ),
         }
     }
 
-    /// Whether no padding comes behind the part.
+    /// Whether no padding comes after the part.
     pub fn should_pack<P: PlatformIds>(self) -> bool
         ensures { result ≡ P.is_packed (section_with P.NUM_SINGLE_PART_SECTIONS P.section_of self) }
     {

@@ -1,13 +1,14 @@
 //! What a platform says of its built-in output sections.
 
 ghost use Rattle.std.specs.Prelude.{◌≡◌, ℕ, Bool, Option, SomeIff, ◌+◌, ◌*◌, ◌<◌, ◌≤◌, ◌^◌};
-ghost use Rattle.wild_ids.specs.Parts.{LeadsBack};
+ghost use Rattle.wild_ids.specs.Alignment.{alignment_count};
+ghost use Rattle.wild_ids.specs.Inverses.{LeadsBack};
 
 use crate::output_section_id::OutputSectionId;
 use crate::part_id::PartId;
 
 /// The ids of a platform's built-in output sections. Those with a single part come first, then the regular ones,
-/// which have a part for each alignment. Custom sections come behind them.
+/// which have a part for each alignment. Custom sections come after them.
 pub trait PlatformIds {
     /// How many sections have a single part, and how many parts these are.
     const NUM_SINGLE_PART_SECTIONS: u32;
@@ -70,7 +71,7 @@ pub trait PlatformIds {
     /// The section of a single part.
     ghost section_of: { ℕ → ℕ };
 
-    /// Whether a section is packed: no padding comes behind its parts.
+    /// Whether a section is packed: no padding comes after its parts.
     ghost is_packed: { ℕ → Bool };
 
     /// The one part of the section, or none where it has more.
@@ -81,7 +82,7 @@ pub trait PlatformIds {
     fn single_part_output_section_id(part: PartId) -> Option<OutputSectionId>
         ensures { SomeIff result (part < NUM_SINGLE_PART_SECTIONS) (section_of part) };
 
-    /// Whether no padding comes behind the parts of the section.
+    /// Whether no padding comes after the parts of the section.
     fn is_packed(section: OutputSectionId) -> bool
         ensures { result ≡ is_packed section };
 
@@ -89,7 +90,7 @@ pub trait PlatformIds {
     ghost two_single_parts: { 2 ≤ NUM_SINGLE_PART_SECTIONS };
 
     /// All built-in parts are below 2 ^ 32 - 1.
-    ghost built_in_fit: { NUM_SINGLE_PART_SECTIONS + 22 * NUM_BUILT_IN_REGULAR_SECTIONS < 2 ^ 32 };
+    ghost built_in_fit: { NUM_SINGLE_PART_SECTIONS + alignment_count * NUM_BUILT_IN_REGULAR_SECTIONS < 2 ^ 32 };
 
     ghost parts_and_back: { LeadsBack NUM_SINGLE_PART_SECTIONS part_of section_of };
 

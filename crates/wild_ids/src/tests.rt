@@ -92,69 +92,72 @@ impl PlatformIds for Four {
 }
 
 #[test]
-fn alignments(rt: HostRuntime) -> Result<(), Fail> {
-    for (raw, wanted) in [
-        (0, Err(AlignmentFault::NotPowerOfTwo)),
-        (24, Err(AlignmentFault::NotPowerOfTwo)),
-        (1, Ok(alignment::MIN)),
-        (8, Ok(alignment::USIZE)),
-        (0x200000, Ok(alignment::MAX)),
-        (0x400000, Err(AlignmentFault::TooLarge)),
+fn alignments(rt: HostRuntime) {
+    for (case, raw, wanted) in [
+        ("no bytes", 0, Err(AlignmentFault::NotPowerOfTwo)),
+        ("a sum of powers", 24, Err(AlignmentFault::NotPowerOfTwo)),
+        ("the least", 1, Ok(alignment::MIN)),
+        ("a machine word", 8, Ok(alignment::USIZE)),
+        ("the largest", 0x200000, Ok(alignment::MAX)),
+        ("above the largest", 0x400000, Err(AlignmentFault::TooLarge)),
     ] {
-        assert_eq!(rt; Alignment::new(raw), wanted);
+        assert_eq!(rt; Alignment::new(raw), wanted, "{case}");
     }
-    Ok(())
+    assert_eq!(rt; Alignment::from_exponent(22), Err(AlignmentFault::TooLarge));
 }
 
 #[test]
-fn multiples(rt: HostRuntime) -> Result<(), Fail> {
-    for (alignment, value, wanted) in [
-        (alignment::MIN, 5, Some(5)),
-        (alignment::USIZE, 0, Some(0)),
-        (alignment::USIZE, 8, Some(8)),
-        (alignment::USIZE, 9, Some(16)),
-        (alignment::VERSYM, u64::MAX - 1, Some(u64::MAX - 1)),
-        (alignment::VERSYM, u64::MAX, None),
+fn multiples(rt: HostRuntime) {
+    for (case, alignment, value, wanted) in [
+        ("of one", alignment::MIN, 5, Some(5)),
+        ("of eight, from 0", alignment::USIZE, 0, Some(0)),
+        ("of eight, from a multiple", alignment::USIZE, 8, Some(8)),
+        ("of eight, from above one", alignment::USIZE, 9, Some(16)),
+        (
+            "the last that fits",
+            alignment::VERSYM,
+            u64::MAX - 1,
+            Some(u64::MAX - 1),
+        ),
+        ("none fits", alignment::VERSYM, u64::MAX, None),
     ] {
-        assert_eq!(rt; alignment.try_align_up(value), wanted);
+        assert_eq!(rt; alignment.try_align_up(value), wanted, "{case}");
     }
-    assert_eq!(rt; alignment::PLT.mask(), 15);
-    let plt = alignment::PLT;
-    assert_eq!(rt; format!(in rt.alloc(); "{plt}")?.as_str(), "16");
-    Ok(())
 }
 
 #[test]
 fn rounding(rt: HostRuntime) -> Result<(), Fail> {
     let page = Alignment::from_exponent(12)?;
-    assert!(rt; page.value() == 4096);
+    assert_eq!(rt; page.value(), 4096);
     assert_eq!(rt; page.align_modulo(0x2afce, 0x42af7e), 0x42bfce);
     assert_eq!(rt; page.align_modulo(0x123456, 0x987222), 0x988456);
+    assert_eq!(rt; Alignment::new(16), Ok(alignment::PLT));
     let sixteen = alignment::PLT;
     assert_eq!(rt; sixteen.align_up(31), 32);
     assert_eq!(rt; sixteen.align_up_usize(16), 16);
     assert_eq!(rt; sixteen.align_down(17), 16);
-    assert_eq!(rt; Alignment::from_exponent(22), Err(AlignmentFault::TooLarge));
+    assert_eq!(rt; sixteen.mask(), 15);
+    assert_eq!(rt; format!(in rt.alloc(); "{sixteen}")?.as_str(), "16");
     assert!(rt; Alignment::default() < page);
     Ok(())
 }
 
 #[test]
 fn constants(rt: HostRuntime) -> Result<(), Fail> {
-    for (constant, exponent) in [
-        (alignment::MIN, 0),
-        (alignment::VERSYM, 1),
-        (alignment::SYMTAB_SHNDX_ENTRY, 2),
-        (alignment::SYSV_HASH, 2),
-        (alignment::EH_FRAME_HDR, 2),
-        (alignment::NOTE_GNU_BUILD_ID, 2),
-        (alignment::USIZE, 3),
-        (alignment::PLT, 4),
-        (alignment::STACK_ALIGNMENT, 4),
-        (alignment::MACHO_PAGE_ALIGNMENT, 14),
-        (alignment::MAX, 21),
+    for (case, constant, exponent) in [
+        ("MIN", alignment::MIN, 0),
+        ("VERSYM", alignment::VERSYM, 1),
+        ("SYMTAB_SHNDX_ENTRY", alignment::SYMTAB_SHNDX_ENTRY, 2),
+        ("SYSV_HASH", alignment::SYSV_HASH, 2),
+        ("EH_FRAME_HDR", alignment::EH_FRAME_HDR, 2),
+        ("NOTE_GNU_BUILD_ID", alignment::NOTE_GNU_BUILD_ID, 2),
+        ("USIZE", alignment::USIZE, 3),
+        ("PLT", alignment::PLT, 4),
+        ("STACK_ALIGNMENT", alignment::STACK_ALIGNMENT, 4),
+        ("MACHO_PAGE_ALIGNMENT", alignment::MACHO_PAGE_ALIGNMENT, 14),
+        ("MAX", alignment::MAX, 21),
     ] {
-        assert_eq!(rt; Alignment::from_exponent(exponent), Ok(constant));
+        assert_eq!(rt; Alignment::from_exponent(exponent), Ok(constant), "{case}");
     }
     assert_eq!(rt; alignment::MACHO_PAGE_ALIGNMENT_VALUE, 16384);
     assert_eq!(rt; NUM_ALIGNMENTS, 22);

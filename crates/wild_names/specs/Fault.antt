@@ -5,6 +5,7 @@ use Rattle.wild_names.specs.declared.fault.Fault.TheVariants as fault
 use Rattle.wild_names.specs.declared.script_error.LinkerScriptError.{LinkerScriptError}
 use Rattle.wild_names.specs.declared.script_error.LinkerScriptError.TheVariants as error
 
+-- the number of a fault, which stays the same from one version to the next
 abbrev pub number_of : Fault → ℕ
 number_of (fault.Syntax position) = 1
 number_of (fault.UnclosedComment position) = 2

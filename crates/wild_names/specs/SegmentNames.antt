@@ -4,6 +4,7 @@ use Rattle.std.specs.Str.{bytes_eq}
 use Rattle.wild_names.specs.declared.segment_name.SegmentName.{SegmentName}
 use Rattle.wild_names.specs.declared.segment_name.SegmentName.TheVariants as segment
 
+-- the segment of this name
 abbrev pub segment_of : List ℕ → SegmentName
 segment_of w =
     if bytes_eq w (codes "text-segment") then segment.Text else (

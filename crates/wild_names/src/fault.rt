@@ -1,6 +1,6 @@
 //! Why a script and a table have no plan.
 
-ghost use Rattle.std.specs.Prelude.{◌≡◌};
+ghost use Rattle.std.specs.Prelude.{◌≡◌, ◌<◌};
 ghost use Rattle.wild_names.specs.Fault.{number_of, script_error_of};
 ghost use Rattle.wild_names.specs.declared.fault.Fault.TheVariants as fault;
 
@@ -35,7 +35,7 @@ pub enum Fault {
     UnclosedComment {
         position: usize,
     },
-    /// The script has no tree. A sort word stands at the position, directly behind the bracket of another.
+    /// The script has no tree. A sort word is at the position, directly after the bracket of another.
     UnsupportedNestedSort {
         position: usize,
     },
@@ -107,11 +107,11 @@ pub enum Fault {
     UnknownPhdr {
         name: Name,
     },
-    /// So many section ids stand, and one more would not fit.
+    /// There are so many section ids, and one more would not fit.
     TooManySections {
         count: u64,
     },
-    /// So many segments stand, and one more is needed.
+    /// There are so many segments, and one more is needed.
     TooManySegments {
         segments: u64,
     },
@@ -135,7 +135,7 @@ pub enum Fault {
     UnknownSymbol {
         name: Name,
     },
-    /// A placement asks for what is laid out behind it.
+    /// A placement asks for what is laid out after it.
     NotLaidOut {
         statement: usize,
         name: Name,
@@ -218,6 +218,16 @@ impl Fault {
             Fault::UnknownPhdr { .. } => 19,
             Fault::TooManySections { .. } => 20,
             Fault::TooManySegments { .. } => 21,
+            of_values => of_values.number_among_values(),
+        }
+    }
+
+    // The number of a fault that comes once values are worked out, or of the last two.
+    fn number_among_values(&self) -> u32
+        requires { 21 < number_of self.now }
+        ensures { result ≡ number_of self.now }
+    {
+        match self {
             Fault::DivisionByZero { .. } => 22,
             Fault::ModuloByZero { .. } => 23,
             Fault::AlignZero { .. } => 24,
@@ -235,6 +245,7 @@ impl Fault {
             Fault::AssertFailed { .. } => 36,
             Fault::NoMemory => 37,
             Fault::Unsupported { .. } => 38,
+            _ => unreachable!(),
         }
     }
 

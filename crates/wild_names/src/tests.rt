@@ -16,11 +16,54 @@ fn names_in_order(rt: HostRuntime) -> Result<(), Fail> {
 }
 
 #[test]
-fn flags_and_faults(rt: HostRuntime) -> Result<(), Fail> {
-    let mut flags = InputFlags::ALLOC;
-    flags.insert(InputFlags::EXEC);
-    assert_eq!(rt; flags.bits(), 5);
-    assert_eq!(rt; Fault::Overflow { left: 1, right: 2 }.number(), 34);
+fn numbers_of_faults(rt: HostRuntime) {
+    for (case, fault, number) in [
+        ("the first", Fault::Syntax { position: 0 }, 1),
+        (
+            "the last before values",
+            Fault::TooManySegments { segments: 256 },
+            21,
+        ),
+        (
+            "the first of values",
+            Fault::DivisionByZero { statement: 0 },
+            22,
+        ),
+        ("a sum", Fault::Overflow { left: 1, right: 2 }, 34),
+        ("the last", Fault::Unsupported { index: 0 }, 38),
+    ] {
+        assert_eq!(rt; fault.number(), number, "{case}");
+    }
+}
+
+#[test]
+fn errors_of_scripts(rt: HostRuntime) -> Result<(), Fail> {
+    let comment = LinkerScriptError::UnclosedComment;
+    let sort = LinkerScriptError::UnsupportedNestedSort;
+    for (case, fault, error) in [
+        (
+            "an open comment",
+            Fault::UnclosedComment { position: 3 },
+            Some(comment),
+        ),
+        (
+            "a nested sort",
+            Fault::UnsupportedNestedSort { position: 28 },
+            Some(sort),
+        ),
+        ("any other fault", Fault::Syntax { position: 3 }, None),
+    ] {
+        assert_eq!(rt; fault.script_error(), error, "{case}");
+    }
+    for (error, text) in [
+        (comment, "Unclosed comment"),
+        (
+            sort,
+            "Nested sorting commands in linker scripts is not supported",
+        ),
+    ] {
+        assert_eq!(rt; format!(in rt.alloc(); "{error}")?.as_str(), text);
+    }
     Ok(())
 }
 
@@ -41,12 +84,13 @@ fn read<H: SectionHeader>(header: &H) -> [bool; 11] {
 }
 
 #[test]
-fn headers_and_formats(rt: HostRuntime) -> Result<(), Fail> {
-    let mut flags = InputFlags::ALLOC;
+fn headers_of_flags(rt: HostRuntime) {
     let code = [
         false, false, true, true, false, true, false, false, false, false, false,
     ];
+    let mut flags = InputFlags::ALLOC;
     flags.insert(InputFlags::EXEC);
+    assert_eq!(rt; flags.bits(), 5);
     assert!(rt; read(&flags) == code);
     let zeros = [
         true, false, false, false, true, false, true, true, false, false, false,
@@ -56,6 +100,10 @@ fn headers_and_formats(rt: HostRuntime) -> Result<(), Fail> {
     flags.insert(InputFlags::WRITE);
     flags.insert(InputFlags::TLS);
     assert!(rt; read(&flags) == zeros);
+}
+
+#[test]
+fn output_formats(rt: HostRuntime) {
     for (name, wanted) in [
         (b"elf64-x86-64".as_slice(), Architecture::X86_64),
         (b"elf64-littleaarch64", Architecture::AArch64),
@@ -63,7 +111,10 @@ fn headers_and_formats(rt: HostRuntime) -> Result<(), Fail> {
         (b"elf64-loongarch", Architecture::LoongArch64),
         (b"elf64-bigaarch64", Architecture::Unsupported),
     ] {
-        assert_eq!(rt; Architecture::parse_output_format(name), wanted);
+        assert_eq!(rt;
+            Architecture::parse_output_format(name),
+            wanted,
+            "{wanted:?}"
+        );
     }
-    Ok(())
 }

@@ -55,7 +55,7 @@ impl Numbering {
         self.numbers.get(name).copied()
     }
 
-    /// Puts a name at the end. Where it stands twice, its number is the first. Fails where memory runs out, and then
+    /// Puts a name at the end. A name that comes twice has the first number. Fails where memory runs out, and then
     /// nothing has changed.
     pub fn push(&mut self, alloc: Global, name: &Name) -> Result<(), NoMemory>
         ensures pushed { OnOk result (self.new ≡ self.old ++ name.now ∷ []) }

@@ -1,11 +1,10 @@
 -- How rules are made, and why there is none.
-use Rattle.std.specs.Prelude.{◌≢◌, ℕ, Bool, true, false, not, ◌&&◌, ◌||◌, ◌==◌, if◌then◌else◌, List, [], ◌∷◌, length, Option, Some, None, Result, Ok, Err}
+use Rattle.std.specs.Prelude.{◌≢◌, ℕ, true, false, ◌||◌, ◌==◌, if◌then◌else◌, List, [], ◌∷◌, length, Option, Some, None, Result, Ok, Err}
 use Rattle.wild_glob.specs.declared.piece.Piece.{Piece}
 use Rattle.wild_glob.specs.declared.escape.GlobPatternType.{GlobPatternType}
 use Rattle.wild_glob.specs.declared.escape.GlobPatternType.TheVariants as kind
 use Rattle.wild_glob.specs.declared.fault.PatternFault.{PatternFault}
-use Rattle.wild_glob.specs.Character.{backslash}
-use Rattle.wild_glob.specs.Escape.{pattern_type, without_escapes}
+use Rattle.wild_glob.specs.Escape.{pattern_type, ends_in_backslash, without_escapes}
 use Rattle.wild_glob.specs.Compiled.{compiled, IsText}
 use Rattle.wild_rules.specs.declared.fault.RuleFault.{RuleFault}
 use Rattle.wild_rules.specs.declared.fault.RuleFault.TheVariants.{BadFile, BadSection}
@@ -14,23 +13,16 @@ use Rattle.wild_rules.specs.declared.matcher.SectionNameMatcher.TheVariants.{Exa
 use Rattle.wild_rules.specs.declared.outcome.SectionRuleOutcome.{SectionRuleOutcome}
 use Rattle.wild_rules.specs.Rule.{Rule}
 
--- whether the byte behind these is escaped, where the first of them is escaped or not
-abbrev pub escapes_next : Bool → List ℕ → Bool
-escapes_next escaped [] = escaped
-escapes_next escaped (b ∷ bs) = escapes_next (not escaped && b == backslash) bs
-
--- whether a backslash that is itself not escaped stands last
-abbrev pub ends_in_backslash : List ℕ → Bool
-ends_in_backslash bytes = escapes_next false bytes
-
 -- a pattern without wildcard is a name, unless it is empty or ends in a lone backslash
 abbrev pub exact_name : List ℕ → Result SectionNameMatcher RuleFault
 exact_name bytes = if length bytes == 0 || ends_in_backslash bytes then Err BadSection else Ok (Exact (without_escapes bytes))
 
+-- a pattern of section names, or why there is none
 abbrev pub pattern_of_names : Result (List Piece) PatternFault → Result SectionNameMatcher RuleFault
 pattern_of_names (Ok pattern) = Ok (Pattern pattern)
 pattern_of_names (Err f) = Err BadSection
 
+-- the section names that a pattern of this kind means
 abbrev pub names_by_kind : GlobPatternType → List ℕ → Result SectionNameMatcher RuleFault
 names_by_kind kind.Star bytes = pattern_of_names (compiled bytes)
 names_by_kind kind.NonStar bytes = pattern_of_names (compiled bytes)
@@ -41,6 +33,7 @@ names_by_kind kind.Exact bytes = exact_name bytes
 abbrev pub names_of : List ℕ → Result SectionNameMatcher RuleFault
 names_of bytes = names_by_kind (pattern_type bytes) bytes
 
+-- a pattern of file names, or why there is none
 abbrev pub pattern_of_files : Result (List Piece) PatternFault → Result (Option (List Piece)) RuleFault
 pattern_of_files (Ok pattern) = Ok (Some pattern)
 pattern_of_files (Err f) = Err BadFile
@@ -74,9 +67,10 @@ AsksMemory pattern (Some file_pattern) = IsText file_pattern
 abbrev pub plain_rule : SectionNameMatcher → SectionRuleOutcome → Rule
 plain_rule matcher outcome = record { matcher = matcher; file = None; outcome = outcome; from_script = false }
 
--- one for this name, and one for the names that begin with it
+-- a rule from outside a script, for this name
 abbrev pub exact_rule : List ℕ → SectionRuleOutcome → Rule
 exact_rule name outcome = plain_rule (Exact name) outcome
 
+-- one for the names that begin with this one
 abbrev pub prefix_rule : List ℕ → SectionRuleOutcome → Rule
 prefix_rule name outcome = plain_rule (Prefix name) outcome

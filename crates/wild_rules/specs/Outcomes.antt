@@ -12,6 +12,7 @@ regular id = record { section_id = id; must_keep = false; sorted = false }
 abbrev pub keep : ℕ → SectionOutputInfo
 keep id = record { section_id = id; must_keep = true; sorted = false }
 
+-- whether an outcome is Discard
 abbrev pub is_discard : SectionRuleOutcome → Bool
 is_discard Discard = true
 is_discard (Section info) = false

@@ -17,22 +17,22 @@ pub struct SectionOutputInfo {
 
 impl SectionOutputInfo {
     /// The output section, with nothing asked.
-    pub fn regular(section_id: OutputSectionId) -> SectionOutputInfo
-        ensures { result ≡ spec.regular section_id }
+    pub fn regular(id: OutputSectionId) -> SectionOutputInfo
+        ensures { result ≡ spec.regular id }
     {
         SectionOutputInfo {
-            section_id,
+            section_id: id,
             must_keep: false,
             sorted: false,
         }
     }
 
     /// The output section, whose input sections are kept.
-    pub fn keep(section_id: OutputSectionId) -> SectionOutputInfo
-        ensures { result ≡ spec.keep section_id }
+    pub fn keep(id: OutputSectionId) -> SectionOutputInfo
+        ensures { result ≡ spec.keep id }
     {
         SectionOutputInfo {
-            section_id,
+            section_id: id,
             must_keep: true,
             sorted: false,
         }

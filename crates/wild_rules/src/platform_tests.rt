@@ -260,52 +260,63 @@ fn section(id: u32) -> SectionRuleOutcome {
     SectionRuleOutcome::Section(SectionOutputInfo::regular(OutputSectionId(id)))
 }
 
+/// In memory, written, and zeros.
+const ZEROS: Header = Header {
+    memory: true,
+    write: true,
+    ..NOTHING
+};
+
+/// In memory, written, and with bits.
+const BITS: Header = Header {
+    bits: true,
+    ..ZEROS
+};
+
+/// The same, but only read.
+const READ: Header = Header {
+    write: false,
+    ..BITS
+};
+
 #[test]
-fn homes(rt: HostRuntime) {
-    let zeros = Header {
-        memory: true,
-        write: true,
-        ..NOTHING
+fn homes_of_zeros(rt: HostRuntime) {
+    let thread = Header {
+        thread: true,
+        ..ZEROS
     };
-    let bits = Header {
-        bits: true,
-        ..zeros
-    };
-    for (header, wanted) in [
-        (NOTHING, SectionRuleOutcome::Discard),
-        (zeros, section(4)),
-        (
-            Header {
-                thread: true,
-                ..zeros
-            },
-            SectionRuleOutcome::Discard,
-        ),
-        (bits, section(3)),
-        (
-            Header {
-                thread: true,
-                ..bits
-            },
-            section(6),
-        ),
-        (
-            Header {
-                code: true,
-                thread: true,
-                ..bits
-            },
-            section(2),
-        ),
-        (
-            Header {
-                write: false,
-                ..bits
-            },
-            section(5),
-        ),
+    for (case, header, wanted) in [
+        ("not in memory", NOTHING, SectionRuleOutcome::Discard),
+        ("zeros", ZEROS, section(4)),
+        ("each thread's own", thread, SectionRuleOutcome::Discard),
     ] {
-        assert!(rt; unnamed_section_output::<Six, Header>(&header) == wanted);
+        assert!(rt;
+            unnamed_section_output::<Six, _>(&header) == wanted,
+            "{case}"
+        );
+    }
+}
+
+#[test]
+fn homes_of_bits(rt: HostRuntime) {
+    let thread = Header {
+        thread: true,
+        ..BITS
+    };
+    let code = Header {
+        code: true,
+        ..thread
+    };
+    for (case, header, wanted) in [
+        ("written", BITS, section(3)),
+        ("each thread's own", thread, section(6)),
+        ("code", code, section(2)),
+        ("only read", READ, section(5)),
+    ] {
+        assert!(rt;
+            unnamed_section_output::<Six, _>(&header) == wanted,
+            "{case}"
+        );
     }
 }
 
@@ -314,25 +325,30 @@ fn lookups(rt: HostRuntime) -> Result<(), Fail> {
     let alloc = rt.alloc();
     let rule = SectionRule::prefix(alloc, b".te", SectionRuleOutcome::EhFrame)?;
     let rules = SectionRules::from_rules(alloc, &[rule])?;
-    let bits = Header {
-        memory: true,
-        bits: true,
-        ..NOTHING
+    let excluded = Header {
+        exclude: true,
+        ..READ
     };
-    for (name, header, wanted) in [
-        (b".text".as_slice(), bits, SectionRuleOutcome::EhFrame),
+    for (case, name, header, wanted) in [
         (
-            b".text",
-            Header {
-                exclude: true,
-                ..bits
-            },
-            SectionRuleOutcome::Discard,
+            "a rule matches",
+            b".text".as_slice(),
+            READ,
+            SectionRuleOutcome::EhFrame,
         ),
-        (b"", bits, section(5)),
-        (b".data", bits, SectionRuleOutcome::Custom),
+        ("excluded", b".text", excluded, SectionRuleOutcome::Discard),
+        ("no name", b"", READ, section(5)),
+        (
+            "no rule matches",
+            b".data",
+            READ,
+            SectionRuleOutcome::Custom,
+        ),
     ] {
-        assert!(rt; rules.lookup::<Six, Header>(name, None, &header) == wanted);
+        assert!(rt;
+            rules.lookup::<Six, _>(name, None, &header) == wanted,
+            "{case}"
+        );
     }
     Ok(())
 }
@@ -347,29 +363,23 @@ fn orphans(rt: HostRuntime) -> Result<(), Fail> {
         section_rules,
         has_linker_script: true,
     };
-    for (name, header, wanted) in [
-        (b".text".as_slice(), NOTHING, true),
-        (b".data", NOTHING, true),
-        (b"", NOTHING, true),
-        (b".no", NOTHING, false),
-        (
-            b".data",
-            Header {
-                exclude: true,
-                ..NOTHING
-            },
-            false,
-        ),
-        (
-            b".data",
-            Header {
-                null: true,
-                ..NOTHING
-            },
-            false,
-        ),
+    let excluded = Header {
+        exclude: true,
+        ..NOTHING
+    };
+    let null = Header {
+        null: true,
+        ..NOTHING
+    };
+    for (case, name, header, wanted) in [
+        ("a rule from outside", b".text".as_slice(), NOTHING, true),
+        ("no rule", b".data", NOTHING, true),
+        ("no name", b"", NOTHING, true),
+        ("discarded from outside", b".no", NOTHING, false),
+        ("excluded", b".data", excluded, false),
+        ("null", b".data", null, false),
     ] {
-        assert!(rt; rules.is_orphan(name, None, &header) == wanted);
+        assert!(rt; rules.is_orphan(name, None, &header) == wanted, "{case}");
     }
     Ok(())
 }
@@ -393,15 +403,15 @@ fn no_orphans(rt: HostRuntime) -> Result<(), Fail> {
 
 #[test]
 fn merges(rt: HostRuntime) {
-    let mergeable = Header {
+    let alone = Header {
         merge: true,
         ..NOTHING
     };
     let grouped = Header {
         group: true,
-        ..mergeable
+        ..alone
     };
-    let asked = Asked {
+    let program = Asked {
         merge: true,
         partial: false,
     };
@@ -409,36 +419,35 @@ fn merges(rt: HostRuntime) {
         merge: true,
         partial: true,
     };
-    for (header, alignment, args, wanted) in [
-        (mergeable, 1, asked, true),
-        (mergeable, 0, partial, true),
-        (mergeable, 2, asked, false),
-        (NOTHING, 1, asked, false),
-        (
-            mergeable,
-            1,
-            Asked {
-                merge: false,
-                partial: false,
-            },
-            false,
-        ),
-        (grouped, 1, asked, true),
-        (grouped, 1, partial, false),
+    let unasked = Asked {
+        merge: false,
+        partial: false,
+    };
+    for (case, header, alignment, args, wanted) in [
+        ("alignment 1", alone, 1, program, true),
+        ("alignment 0", alone, 0, partial, true),
+        ("alignment 2", alone, 2, program, false),
+        ("not to be merged", NOTHING, 1, program, false),
+        ("not asked for", alone, 1, unasked, false),
+        ("a group in a program", grouped, 1, program, true),
+        ("a group in a partial object", grouped, 1, partial, false),
     ] {
-        assert!(rt; should_merge_sections(&header, alignment, &args) == wanted);
+        assert!(rt;
+            should_merge_sections(&header, alignment, &args) == wanted,
+            "{case}"
+        );
     }
 }
 
 #[test]
 fn outcomes_of_ids(rt: HostRuntime) {
-    for (id, wanted) in [
-        (7, SectionRuleOutcome::EhFrame),
-        (6, SectionRuleOutcome::RiscVAttribute),
-        (2, section(1)),
+    for (case, id, wanted) in [
+        ("the first of two", 7, SectionRuleOutcome::EhFrame),
+        ("attributes", 6, SectionRuleOutcome::RiscVAttribute),
+        ("any other", 2, section(1)),
     ] {
         let info = SectionOutputInfo::regular(OutputSectionId(1));
         let outcome = SectionRuleOutcome::section_rule_from_id::<Six>(OutputSectionId(id), info);
-        assert!(rt; outcome == wanted);
+        assert!(rt; outcome == wanted, "{case}");
     }
 }

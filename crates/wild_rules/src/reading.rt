@@ -1,8 +1,7 @@
 //! Reads the patterns of a rule.
 
-ghost use Rattle.std.specs.Prelude.{◌≡◌, ◌≢◌, ◌⊎◌, ◌==◌, ◌&&◌, [], not};
+ghost use Rattle.std.specs.Prelude.{◌≡◌, ◌≢◌, ◌⊎◌, []};
 ghost use Rattle.std.specs.Option.{option_copied};
-ghost use Rattle.wild_glob.specs.Character.{backslash};
 ghost use Rattle.wild_glob.specs.Compiled.{compiled, IsText};
 ghost use Rattle.wild_rules.specs.Making as spec;
 ghost use Rattle.wild_rules.specs.declared.fault.RuleFault.TheVariants as fault;
@@ -12,26 +11,8 @@ use crate::matcher::SectionNameMatcher;
 use std::alloc::Global;
 use wild_glob::{
     GlobPatternType, Pattern, PatternFault, analyze_glob_pattern, compile_glob_pattern,
-    unescape_pattern,
+    ends_in_backslash, unescape_pattern,
 };
-
-// Whether a byte, itself escaped or not, escapes the next one.
-fn escapes(escaped: bool, byte: u8) -> bool
-    ensures { result ≡ (not escaped && byte == backslash) }
-{
-    !escaped && byte == b'\\'
-}
-
-// Whether a backslash that is itself not escaped stands last.
-fn ends_in_backslash(pattern: &[u8]) -> bool
-    ensures { result ≡ spec.ends_in_backslash pattern.now }
-{
-    let mut escaped = false;
-    for byte in pattern {
-        escaped = escapes(escaped, *byte);
-    }
-    escaped
-}
 
 fn exact_name(alloc: Global, pattern: &[u8]) -> Result<SectionNameMatcher, RuleFault>
     ensures { (result ≡ spec.exact_name pattern.now) ⊎ ((pattern.now ≢ []) × (result ≡ Err fault.NoMemory)) }

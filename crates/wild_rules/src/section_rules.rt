@@ -5,7 +5,7 @@ ghost use Rattle.std.specs.List.{find};
 ghost use Rattle.std.specs.Option.{option_copied};
 ghost use Rattle.wild_rules.specs.Lookup as spec;
 ghost use Rattle.wild_rules.specs.Taking.{takes};
-ghost use Rattle.wild_rules.specs.Unnamed.{unnamed_outcome};
+ghost use Rattle.wild_rules.specs.Unnamed.{unnamed_outcome, homes, told};
 ghost use Rattle.wild_rules.specs.declared.outcome.SectionRuleOutcome.TheVariants as sends;
 
 use crate::outcome::SectionRuleOutcome;
@@ -64,22 +64,7 @@ impl SectionRules {
     ) -> SectionRuleOutcome
         ensures { result ≡ (if H.should_exclude header.now then sends.Discard
             else spec.sent (spec.first_rule self.now section_name.now (option_copied file_name.entry)) section_name.now
-            (unnamed_outcome (record {
-              text = P.TEXT_SECTION_ID;
-              data_section = P.DATA_SECTION_ID;
-              bss = P.BSS_SECTION_ID;
-              rodata = P.RODATA_SECTION_ID;
-              tdata = P.TDATA_SECTION_ID;
-              tbss = P.TBSS_SECTION_ID;
-            })
-            (record {
-              alloc = H.is_alloc header.now;
-              prog_bits = H.is_prog_bits header.now;
-              no_bits = H.is_no_bits header.now;
-              executable = H.is_executable header.now;
-              writable = H.is_writable header.now;
-              tls = H.is_tls header.now;
-            }))) }
+            (unnamed_outcome (homes P.PlatformIds) (told H.SectionHeader header.now))) }
     {
         if header.should_exclude() {
             return SectionRuleOutcome::Discard;

@@ -29,21 +29,44 @@ fn is_match(rt: &impl Abort, alloc: Global, pattern: &[u8], name: &[u8]) -> bool
 
 #[test]
 fn section_patterns(rt: HostRuntime) {
-    for (pattern, name, wanted) in [
-        (b"foo\\*bar".as_slice(), b"foo*bar".as_slice(), true),
-        (b"foo\\*bar", b"fooxbar", false),
-        (b"foo\\*bar", b"foo\\*bar", false),
-        (b"a\\\\", b"a\\", true),
-        (b".mydata.[0-9]", b".mydata.5", true),
-        (b".mydata.[0-9]", b".mydata.10", false),
-        (b".text.*.foo", b".text.bar.foo", true),
-        (b".text.*.foo", b".text.bar.baz", false),
-        (b".text", b".text", true),
-        (b".text", b".text.hot", false),
-        (b"*", b".\xff", false),
-        (b".\xff", b".\xff", true),
+    for (case, pattern, name, wanted) in [
+        (
+            "an escaped star is itself",
+            b"foo\\*bar".as_slice(),
+            b"foo*bar".as_slice(),
+            true,
+        ),
+        ("and no other", b"foo\\*bar", b"fooxbar", false),
+        (
+            "its backslash is dropped",
+            b"foo\\*bar",
+            b"foo\\*bar",
+            false,
+        ),
+        ("an escaped backslash", b"a\\\\", b"a\\", true),
+        ("a class", b".mydata.[0-9]", b".mydata.5", true),
+        (
+            "a class is one character",
+            b".mydata.[0-9]",
+            b".mydata.10",
+            false,
+        ),
+        (
+            "a star between names",
+            b".text.*.foo",
+            b".text.bar.foo",
+            true,
+        ),
+        ("another end", b".text.*.foo", b".text.bar.baz", false),
+        ("the name itself", b".text", b".text", true),
+        ("a longer name", b".text", b".text.hot", false),
+        ("a star and what is no text", b"*", b".\xff", false),
+        ("no text, but the name itself", b".\xff", b".\xff", true),
     ] {
-        assert!(rt; is_match(&rt, rt.alloc(), pattern, name) == wanted);
+        assert!(rt;
+            is_match(&rt, rt.alloc(), pattern, name) == wanted,
+            "{case}"
+        );
     }
 }
 
@@ -56,36 +79,63 @@ fn is_file_match(rt: &impl Abort, alloc: Global, pattern: &[u8], file: Option<&[
 
 #[test]
 fn file_patterns(rt: HostRuntime) {
-    for (pattern, file, wanted) in [
-        (b"*crt?.o".as_slice(), Some(b"lib/crt1.o".as_slice()), true),
-        (b"*crt?.o", Some(b"crt.o"), false),
-        (b"*crt?.o", Some(b"crt10.o"), false),
-        (b"*crt?.o", Some(b"\xffcrt1.o"), false),
-        (b"*crt?.o", None, false),
-        (b"*", None, false),
-        (b"a\\*.o", Some(b"a*.o"), true),
-        (b"a.o", Some(b"a.o"), true),
+    for (case, pattern, file, wanted) in [
+        (
+            "one character",
+            b"*crt?.o".as_slice(),
+            Some(b"lib/crt1.o".as_slice()),
+            true,
+        ),
+        ("none", b"*crt?.o", Some(b"crt.o"), false),
+        ("two", b"*crt?.o", Some(b"crt10.o"), false),
+        (
+            "a name that is no text",
+            b"*crt?.o",
+            Some(b"\xffcrt1.o"),
+            false,
+        ),
+        ("no name", b"*crt?.o", None, false),
+        ("a star and no name", b"*", None, false),
+        ("an escaped star", b"a\\*.o", Some(b"a*.o"), true),
+        ("the name itself", b"a.o", Some(b"a.o"), true),
     ] {
-        assert!(rt; is_file_match(&rt, rt.alloc(), pattern, file) == wanted);
+        assert!(rt;
+            is_file_match(&rt, rt.alloc(), pattern, file) == wanted,
+            "{case}"
+        );
     }
 }
 
 #[test]
-fn faults(rt: HostRuntime) {
-    for (pattern, file, wanted) in [
-        (b"a**".as_slice(), None, RuleFault::BadSection),
-        (b"", None, RuleFault::BadSection),
-        (b"a\\", None, RuleFault::BadSection),
-        (b"a\\\\\\", None, RuleFault::BadSection),
-        (b"*\xff", None, RuleFault::BadSection),
-        (b"[a", Some(b"a.o".as_slice()), RuleFault::BadSection),
-        (b"a**", Some(b"[a"), RuleFault::BadFile),
-        (b".text", Some(b""), RuleFault::BadFile),
-        (b".text", Some(b"\xff"), RuleFault::BadFile),
-        (b".text", Some(b"a\\"), RuleFault::BadFile),
+fn section_faults(rt: HostRuntime) {
+    for (case, pattern) in [
+        ("two stars", b"a**".as_slice()),
+        ("no bytes", b""),
+        ("a last backslash", b"a\\"),
+        ("a last backslash after an escaped one", b"a\\\\\\"),
+        ("a star and what is no text", b"*\xff"),
     ] {
-        let rule = SectionRule::new(rt.alloc(), pattern, file, CUSTOM);
-        assert!(rt; rule.err() == Some(wanted));
+        let rule = SectionRule::new(rt.alloc(), pattern, None, CUSTOM);
+        assert!(rt; rule.err() == Some(RuleFault::BadSection), "{case}");
+    }
+}
+
+#[test]
+fn file_faults(rt: HostRuntime) {
+    for (case, pattern, file, wanted) in [
+        (
+            "the section alone",
+            b"[a".as_slice(),
+            b"a.o".as_slice(),
+            RuleFault::BadSection,
+        ),
+        ("both", b"a**", b"[a", RuleFault::BadFile),
+        ("no bytes", b".text", b"", RuleFault::BadFile),
+        ("no text", b".text", b"\xff", RuleFault::BadFile),
+        ("a last backslash", b".text", b"a\\", RuleFault::BadFile),
+    ] {
+        let rule = SectionRule::new(rt.alloc(), pattern, Some(file), CUSTOM);
+        assert!(rt; rule.err() == Some(wanted), "{case}");
     }
 }
 
@@ -145,19 +195,28 @@ fn three_rules(alloc: Global) -> Result<SectionRules, RuleFault> {
 fn first_match(rt: HostRuntime) {
     let rules = three_rules(rt.alloc()).expect(&rt, "rules");
     let section = SectionRuleOutcome::Section(SectionOutputInfo::regular(OutputSectionId(2)));
-    for (name, file, wanted) in [
+    let discard = SectionRuleOutcome::Discard;
+    let debug = SectionRuleOutcome::Debug;
+    let file: Option<&[u8]> = Some(b"a.o");
+    for (case, name, file, wanted) in [
         (
+            "the first of three",
             b".text".as_slice(),
-            Some(b"a.o".as_slice()),
-            Some(SectionRuleOutcome::Discard),
+            file,
+            Some(discard),
         ),
-        (b".text", Some(b"b.o"), Some(SectionRuleOutcome::Debug)),
-        (b".text", None, Some(SectionRuleOutcome::Debug)),
-        (b".text.a", Some(b"a.o"), Some(section)),
-        (b".data", None, None),
-        (b"", Some(b"a.o"), None),
+        (
+            "another file",
+            b".text",
+            Some(b"b.o".as_slice()),
+            Some(debug),
+        ),
+        ("no file", b".text", None, Some(debug)),
+        ("the last of three", b".text.a", file, Some(section)),
+        ("none", b".data", None, None),
+        ("no name", b"", file, None),
     ] {
         let found = rules.lookup_rule(name, file);
-        assert!(rt; found.map(|rule| rule.outcome()) == wanted);
+        assert!(rt; found.map(|rule| rule.outcome()) == wanted, "{case}");
     }
 }

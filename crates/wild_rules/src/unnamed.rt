@@ -8,23 +8,7 @@ use wild_base::{OutputSectionId, PlatformIds, SectionHeader};
 
 // The platform's section for what the header tells, if there is one.
 fn home_of<P: PlatformIds, H: SectionHeader>(header: &H) -> Option<OutputSectionId>
-    ensures { result ≡ spec.home_of
-        (record {
-          text = P.TEXT_SECTION_ID;
-          data_section = P.DATA_SECTION_ID;
-          bss = P.BSS_SECTION_ID;
-          rodata = P.RODATA_SECTION_ID;
-          tdata = P.TDATA_SECTION_ID;
-          tbss = P.TBSS_SECTION_ID;
-        })
-        (record {
-          alloc = H.is_alloc header.now;
-          prog_bits = H.is_prog_bits header.now;
-          no_bits = H.is_no_bits header.now;
-          executable = H.is_executable header.now;
-          writable = H.is_writable header.now;
-          tls = H.is_tls header.now;
-        }) }
+    ensures { result ≡ spec.home_of (spec.homes P.PlatformIds) (spec.told H.SectionHeader header.now) }
 {
     if header.is_alloc() && header.is_prog_bits() {
         if header.is_executable() {
@@ -52,23 +36,7 @@ fn home_of<P: PlatformIds, H: SectionHeader>(header: &H) -> Option<OutputSection
 /// that is only read; what is in memory without bits to that for zeros, each thread's own or not. All else, and what
 /// the platform has no section for, goes to Discard.
 pub fn unnamed_section_output<P: PlatformIds, H: SectionHeader>(header: &H) -> SectionRuleOutcome
-    ensures { result ≡ spec.unnamed_outcome
-        (record {
-          text = P.TEXT_SECTION_ID;
-          data_section = P.DATA_SECTION_ID;
-          bss = P.BSS_SECTION_ID;
-          rodata = P.RODATA_SECTION_ID;
-          tdata = P.TDATA_SECTION_ID;
-          tbss = P.TBSS_SECTION_ID;
-        })
-        (record {
-          alloc = H.is_alloc header.now;
-          prog_bits = H.is_prog_bits header.now;
-          no_bits = H.is_no_bits header.now;
-          executable = H.is_executable header.now;
-          writable = H.is_writable header.now;
-          tls = H.is_tls header.now;
-        }) }
+    ensures { result ≡ spec.unnamed_outcome (spec.homes P.PlatformIds) (spec.told H.SectionHeader header.now) }
 {
     match home_of::<P, H>(header) {
         Some(section_id) => SectionRuleOutcome::Section(SectionOutputInfo::regular(section_id)),

@@ -8,7 +8,7 @@ use Rattle.wild_table.specs.declared.entry.Entry.{Entry}
 use Rattle.wild_table.specs.declared.entry.Entry.TheVariants.{OfRow, OfSymbol}
 use Rattle.wild_table.specs.Table.{entry_of, with_entry, entries_from, rows_of, symbols_of, table_of, extended}
 
--- the table of entries behind those of another
+-- the table of entries after those of another
 abbrev pub with_front : InputTable → Result (List Entry) ℕ → Result InputTable ℕ
 with_front front (Ok entries) = Ok (record { rows = front.rows ++ rows_of entries; symbols = front.symbols ++ symbols_of entries })
 with_front front (Err bad) = Err bad

@@ -8,6 +8,7 @@ use Rattle.std.specs.Str.Parse.{digits_value}
 abbrev pub is_numeral : ℕ → List ℕ → Bool
 is_numeral radix digits = nat_lt 0 (length digits) && list_all (λ c. nat_lt (digit_value c) radix) digits && nat_lt (digits_value radix digits) (2 ^ 64)
 
+-- the number that digits of this radix write, if it is below 2 ^ 64
 abbrev pub numeral : ℕ → List ℕ → Option ℕ
 numeral radix digits = if is_numeral radix digits then Some (digits_value radix digits) else None
 

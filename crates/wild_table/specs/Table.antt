@@ -19,6 +19,7 @@ records bytes = csv.records csv.default_config (csv.strip_bom bytes)
 -- ---- one record
 
 infixl 10 ◌>>=◌
+-- what comes of a value, if there is one
 abbrev pub ◌>>=◌ : {A B : Type 0} → Option A → (A → Option B) → Option B
 None >>= f = None
 (Some x) >>= f = f x
@@ -78,6 +79,7 @@ rows_of [] = []
 rows_of (OfRow row ∷ entries) = row ∷ rows_of entries
 rows_of (OfSymbol symbol ∷ entries) = rows_of entries
 
+-- the symbols among records
 abbrev pub symbols_of : List Entry → List SymbolRow
 symbols_of [] = []
 symbols_of (OfRow row ∷ entries) = symbols_of entries
@@ -88,10 +90,11 @@ abbrev pub table_of : Result (List Entry) ℕ → Result InputTable ℕ
 table_of (Ok entries) = Ok (record { rows = rows_of entries; symbols = symbols_of entries })
 table_of (Err index) = Err index
 
+-- the table that a text writes, or the number of its first bad record
 abbrev pub table : List ℕ → Result InputTable ℕ
 table bytes = table_of (entries_from 0 (records bytes))
 
--- a table with one entry more behind the others
+-- a table with one entry more after the others
 abbrev pub extended : InputTable → Entry → InputTable
 extended t (OfRow row) = record { rows = t.rows ++ row ∷ []; symbols = t.symbols }
 extended t (OfSymbol symbol) = record { rows = t.rows; symbols = t.symbols ++ symbol ∷ [] }

@@ -17,7 +17,7 @@ pub enum Entry {
     OfSymbol(SymbolRow),
 }
 
-// The fields of a record behind its kind are named by their places.
+// The fields of a record after its kind are named by their places.
 #[derive(Clone, Copy)]
 struct Fields<'a> {
     kind: &'a [u8],

@@ -23,7 +23,7 @@ pub fn read_flags(letters: &[u8]) -> Option<InputFlags>
     Some(InputFlags::from_bits_retain(bits))
 }
 
-// How often a letter stands there.
+// How often a letter comes.
 fn times(letters: &[u8], letter: u8) -> usize
     ensures { result ≡ times letters.now letter }
 {
@@ -53,7 +53,7 @@ fn has_twice(letters: &[u8]) -> bool
         || times(letters, b'E') > 1
 }
 
-// The bit of a letter's flag, if the letter stands there once.
+// The bit of a letter's flag, if the letter comes once.
 fn bit_of(letters: &[u8], letter: u8, flag: InputFlags) -> u8
     ensures { result ≡ bit_of letters.now letter flag.0 }
 {

@@ -79,7 +79,7 @@ fn read_entries(alloc: Global, records: &[ByteRecord]) -> Result<InputTable, Tab
     Ok(inputs)
 }
 
-// The table with an entry behind the others.
+// The table with an entry after the others.
 fn with_entry(mut inputs: InputTable, entry: Entry) -> Result<InputTable, NoMemory>
     ensures { IfOk result (λ new. new ≡ extended inputs entry) }
 {

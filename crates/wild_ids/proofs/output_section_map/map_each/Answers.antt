@@ -5,6 +5,7 @@ use Rattle.wild_ids.proofs.output_section_map.map_each.Goals as goal
 pub loop-value-preserved : goal.loop-value-preserved
 loop-value-preserved g c = (
   search of_calls,
-  rw c.in_ok-push.ensures.items (simp length-append (omega arith)),
-  rw c.in_ok-push.ensures.items (maps_more _ _ _ _ _ _ _ _ c.loop-value.invariant.2 c.cb.ensures),
+  grind (arith),
+  rw c.push_reserved.ensures.items (simp length-append (omega arith)),
+  rw c.push_reserved.ensures.items (maps_more _ _ _ _ _ _ _ _ c.loop-value.invariant.3 c.cb.ensures),
 )

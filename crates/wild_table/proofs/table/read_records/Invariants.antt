@@ -5,7 +5,7 @@ use Rattle.csv.specs.declared.parser.State.TheVariants as st
 use Rattle.csv.specs.declared.reader.Trim.TheVariants as trim
 use Rattle.wild_table.proofs.table.read_records.Given as goal
 
--- the records so far take the text to where the reader stands
+-- the records so far take the text to where the reader is
 abbrev pub invariant-loop-record : goal.invariant-loop-record
 invariant-loop-record l = (l.record-iterator.rdr.trim ≡ trim.None) × Ready l.record-iterator.rdr × (0 < l.record-iterator.left) × (l.record-iterator.rdr.config ≡ default_config)
     × (y : List ℕ) × (source_of (λ s. Some s.now) l.record-iterator.rdr ≡ Some y)
