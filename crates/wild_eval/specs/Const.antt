@@ -2,17 +2,14 @@
 use Rattle.std.specs.Prelude.{ℕ, ◌==◌, if◌then◌else◌, Result, Ok, Err}
 use Rattle.wild_eval.specs.declared.constant.ConstFault.{ConstFault}
 use Rattle.wild_eval.specs.declared.constant.ConstFault.TheVariants.{NotConstant, DivisionByZero, ModuloByZero}
-use Rattle.wild_expression_tree.specs.declared.tree.Expression.{Expression, Row_of-Expression, end_of-Expression, more_of-Expression, Number, LogicalOr', LogicalAnd', LessEqual', GreaterEqual', Equal', NotEqual', LessThan', GreaterThan', BitwiseOr', BitwiseXor', BitwiseAnd', LeftShift', RightShift', Add', Subtract', Multiply', Divide', Modulo', LogicalNot', BitwiseNot', Negate', Ternary', Min', Max'}
-use Rattle.wild_value_spec.specs.declared.operator.Arithmetic.{Arithmetic}
-use Rattle.wild_value_spec.specs.declared.operator.Arithmetic.TheVariants as arithmetic
-use Rattle.wild_value_spec.specs.declared.operator.Comparison.{Comparison}
-use Rattle.wild_value_spec.specs.declared.operator.Comparison.TheVariants as comparison
-use Rattle.wild_value_spec.specs.declared.operator.Connective.{Connective}
-use Rattle.wild_value_spec.specs.declared.operator.Connective.TheVariants as connective
-use Rattle.wild_value_spec.specs.declared.operator.Division.{Division}
-use Rattle.wild_value_spec.specs.declared.operator.Division.TheVariants as division
-use Rattle.wild_value_spec.specs.declared.operator.Unary.{Unary}
-use Rattle.wild_value_spec.specs.declared.operator.Unary.TheVariants as unary
+use Rattle.wild_expression_tree.specs.declared.tree.Expression.{Expression}
+use Rattle.wild_expression_tree.specs.Shape.{Shape, Number, Ternary, fold}
+use Rattle.wild_expression_tree.specs.declared.operator.Arithmetic.{Arithmetic}
+use Rattle.wild_expression_tree.specs.declared.operator.Comparison.{Comparison}
+use Rattle.wild_expression_tree.specs.declared.operator.Connective.{Connective}
+use Rattle.wild_expression_tree.specs.declared.operator.Division.{Division}
+use Rattle.wild_expression_tree.specs.declared.operator.Division.TheVariants as division
+use Rattle.wild_expression_tree.specs.declared.operator.Unary.{Unary}
 use Rattle.wild_value_spec.specs.Answer.{◌>>=◌}
 use Rattle.wild_value_spec.specs.Numbers.{arithmetic_result, divided_by, holds, decides, unary_result, truth, is_true}
 
@@ -47,37 +44,18 @@ unary_value o a = a >>= (λ x. Ok (unary_result o x))
 unfoldable pub ternary_value : Constant → Constant → Constant → Constant
 ternary_value c a b = c >>= (λ x. if x == 0 then b else a)
 
--- ---- trees, in which an operand is a row of one
+-- ---- trees
 
-abbrev mutual
-  pub const : Expression → Constant
-  const (Number n) = Ok n
-  const (Add' p x q y) = arithmetic_value arithmetic.Add (row x) (row y)
-  const (Subtract' p x q y) = arithmetic_value arithmetic.Subtract (row x) (row y)
-  const (Multiply' p x q y) = arithmetic_value arithmetic.Multiply (row x) (row y)
-  const (BitwiseAnd' p x q y) = arithmetic_value arithmetic.BitwiseAnd (row x) (row y)
-  const (BitwiseOr' p x q y) = arithmetic_value arithmetic.BitwiseOr (row x) (row y)
-  const (BitwiseXor' p x q y) = arithmetic_value arithmetic.BitwiseXor (row x) (row y)
-  const (LeftShift' p x q y) = arithmetic_value arithmetic.LeftShift (row x) (row y)
-  const (RightShift' p x q y) = arithmetic_value arithmetic.RightShift (row x) (row y)
-  const (Min' p x q y) = arithmetic_value arithmetic.Min (row x) (row y)
-  const (Max' p x q y) = arithmetic_value arithmetic.Max (row x) (row y)
-  const (Divide' p x q y) = division_value division.Divide (row x) (row y)
-  const (Modulo' p x q y) = division_value division.Modulo (row x) (row y)
-  const (LessEqual' p x q y) = comparison_value comparison.LessEqual (row x) (row y)
-  const (GreaterEqual' p x q y) = comparison_value comparison.GreaterEqual (row x) (row y)
-  const (Equal' p x q y) = comparison_value comparison.Equal (row x) (row y)
-  const (NotEqual' p x q y) = comparison_value comparison.NotEqual (row x) (row y)
-  const (LessThan' p x q y) = comparison_value comparison.LessThan (row x) (row y)
-  const (GreaterThan' p x q y) = comparison_value comparison.GreaterThan (row x) (row y)
-  const (LogicalAnd' p x q y) = connective_value connective.LogicalAnd (row x) (row y)
-  const (LogicalOr' p x q y) = connective_value connective.LogicalOr (row x) (row y)
-  const (LogicalNot' p x) = unary_value unary.LogicalNot (row x)
-  const (BitwiseNot' p x) = unary_value unary.BitwiseNot (row x)
-  const (Negate' p x) = unary_value unary.Negate (row x)
-  const (Ternary' p x q y r z) = ternary_value (row x) (row y) (row z)
-  const e = Err NotConstant
+-- a node, over what its parts are
+abbrev pub constant : Shape Constant → Constant
+constant (Number n) = Ok n
+constant (Shape.Arithmetic o a b) = arithmetic_value o a b
+constant (Shape.Division o a b) = division_value o a b
+constant (Shape.Comparison o a b) = comparison_value o a b
+constant (Shape.Connective o a b) = connective_value o a b
+constant (Shape.Unary o a) = unary_value o a
+constant (Ternary c a b) = ternary_value c a b
+constant s = Err NotConstant
 
-  pub row : {m : _} → Row_of-Expression m → Constant
-  row end_of-Expression = Err NotConstant
-  row (more_of-Expression x rest) = const x
+abbrev pub const : Expression → Constant
+const = fold constant

@@ -1,13 +1,14 @@
 -- The definitions at an evaluator's names, statement and table.
 use Rattle.std.specs.Prelude.{ℕ, List, Option, Result}
 use Rattle.wild_names.specs.declared.fault.Fault.{Fault}
-use Rattle.wild_expression_tree.specs.declared.tree.AssertCommand.{AssertCommand}
-use Rattle.wild_expression_tree.specs.declared.tree.Expression.{Expression, out-Expression}
-use Rattle.wild_value_spec.specs.declared.operator.Arithmetic.{Arithmetic}
-use Rattle.wild_value_spec.specs.declared.operator.Comparison.{Comparison}
-use Rattle.wild_value_spec.specs.declared.operator.Connective.{Connective}
-use Rattle.wild_value_spec.specs.declared.operator.Division.{Division}
-use Rattle.wild_value_spec.specs.declared.operator.Unary.{Unary}
+use Rattle.wild_expression_tree.specs.declared.tree.Expression.{Expression}
+use Rattle.wild_expression_tree.specs.Shape.{shape}
+use Rattle.wild_expression_tree.specs.declared.operator.Arithmetic.{Arithmetic}
+use Rattle.wild_expression_tree.specs.declared.operator.Comparison.{Comparison}
+use Rattle.wild_expression_tree.specs.declared.operator.Connective.{Connective}
+use Rattle.wild_expression_tree.specs.declared.operator.Division.{Division}
+use Rattle.wild_expression_tree.specs.declared.operator.Question.{Question}
+use Rattle.wild_expression_tree.specs.declared.operator.Unary.{Unary}
 use Rattle.wild_value_spec.specs.declared.value.Point.{Point}
 use Rattle.wild_value_spec.specs.declared.value.Value.{Value}
 use Rattle.wild_value_spec.specs.Known.{Known}
@@ -70,6 +71,9 @@ load_named r = spec.load_named (scope r) r.statement (known r)
 abbrev pub defined_value : Evaluator → Name → Value
 defined_value r = spec.defined_value (scope r) r.statement (known r)
 
+abbrev pub named_value : Evaluator → Question → Name → Result Value Fault
+named_value r = spec.named_value (scope r) r.statement (known r)
+
 abbrev pub from_start : Evaluator → Name → ℕ → ℕ → ℕ → Result Value Fault
 from_start r = spec.from_start (scope r) r.statement (known r)
 
@@ -120,8 +124,8 @@ symbol_by r h = spec.symbol_by (scope r) r.statement (known r) (value r h)
 abbrev pub symbol : Evaluator → ℕ → List Name → Name → Point → Result Value Fault
 symbol r h = spec.symbol (scope r) r.statement (known r) (value r h)
 
-abbrev pub assert_value : Evaluator → ℕ → List Name → AssertCommand → Point → Result Value Fault
+abbrev pub assert_value : Evaluator → ℕ → List Name → Expression → Name → ℕ → Point → Result Value Fault
 assert_value r h = spec.assert_value (scope r) r.statement (known r) (value r h)
 
 abbrev pub node : Evaluator → ℕ → List Name → Expression → Point → Result Value Fault
-node r h path e p = spec.node (scope r) r.statement (known r) (value r h) path p (out-Expression e)
+node r h path e p = spec.node (scope r) r.statement (known r) (value r h) path p (shape e)

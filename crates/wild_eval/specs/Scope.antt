@@ -9,7 +9,7 @@ use Rattle.wild_eval.specs.declared.scope.SymbolEntry.{SymbolEntry}
 use Rattle.wild_eval.specs.declared.scope.Scope.{Scope}
 use Rattle.wild_eval.specs.declared.scope.Path.{Path}
 use Rattle.wild_eval.specs.declared.scope.Path.TheVariants.{Start, Through'}
-use Rattle.wild_value_spec.specs.Scope.{Name, Scope, OfRow, OfScript, line_of}
+use Rattle.wild_value_spec.specs.Scope.{Name, OfRow, OfScript, line_of}
 use Rattle.wild_value_spec.specs.Scope as meaning
 
 -- a definition without how it is kept
@@ -31,7 +31,7 @@ or_empty (Some name) = name.now
 or_empty None = []
 
 -- sections by their index, and symbols by the index of their name
-abbrev pub scope_of : Scope → Scope
+abbrev pub scope_of : Scope → meaning.Scope
 scope_of scope = record {
   section_name = λ s. or_empty (slice_get scope.sections.now s);
   «section» = λ x. number_of x scope.section_numbers.now;

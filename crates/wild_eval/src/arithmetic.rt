@@ -3,7 +3,7 @@
 ghost use Rattle.std.specs.Prelude.{◌≡◌, ◌<◌};
 ghost use Rattle.wild_value_spec.specs.Numbers as spec;
 
-use wild_value_spec::{Arithmetic, Comparison, Connective, Division, Unary};
+use wild_expression_tree::{Arithmetic, Comparison, Connective, Division, Unary};
 
 /// Sums, differences and products wrap. Shifts are by the right side modulo 64.
 #[tactic(auto, unfolding(wild_value_spec::specs::Numbers::arithmetic_result))]

@@ -4,9 +4,9 @@ ghost use Rattle.std.specs.Prelude.{◌≡◌};
 ghost use Rattle.wild_eval.specs.Const as spec;
 
 use crate::arithmetic::{apply, change, decides, divide, holds, truth, truth_of};
-use crate::operators::{arithmetic, comparison, connective, division, unary};
-use wild_expression_tree::Expression;
-use wild_value_spec::{Arithmetic, Comparison, Connective, Division, Unary};
+use wild_expression_tree::{
+    Arithmetic, Comparison, Connective, Division, Expression, Shape, Unary,
+};
 
 /// Why an expression has no constant number.
 #[derive(Clone, Copy, Debug, PartialEq, Eq)]
@@ -30,51 +30,25 @@ fn zero_divisor(operator: Division) -> ConstFault
 
 /// The number of an expression of numbers and operators. Sides that are not chosen do not count. Fails with the first fault.
 #[cycle(constants)]
-#[tactic(auto, unfolding(wild_expression_tree::specs::Equality::opened))]
+#[tactic(auto, using(wild_expression_tree::proofs::Folded::folded))]
 pub fn evaluate_const(e: &Expression) -> Result<u64, ConstFault>
     ensures { result ≡ spec.const e.now }
 {
-    match e {
-        Expression::Number(number) => Ok(*number),
-        Expression::Add(a, b)
-        | Expression::Subtract(a, b)
-        | Expression::Multiply(a, b)
-        | Expression::BitwiseAnd(a, b)
-        | Expression::BitwiseOr(a, b)
-        | Expression::BitwiseXor(a, b)
-        | Expression::LeftShift(a, b)
-        | Expression::RightShift(a, b)
-        | Expression::Min(a, b)
-        | Expression::Max(a, b) => { arithmetic_value(arithmetic(e), a.get(), b.get()) }
-        Expression::Divide(a, b) | Expression::Modulo(a, b) => {
-            division_value(division(e), a.get(), b.get())
-        }
-        Expression::LessEqual(a, b)
-        | Expression::GreaterEqual(a, b)
-        | Expression::Equal(a, b)
-        | Expression::NotEqual(a, b)
-        | Expression::LessThan(a, b)
-        | Expression::GreaterThan(a, b) => { comparison_value(comparison(e), a.get(), b.get()) }
-        Expression::LogicalAnd(a, b) | Expression::LogicalOr(a, b) => {
-            connective_value(connective(e), a.get(), b.get())
-        }
-        Expression::LogicalNot(a) | Expression::BitwiseNot(a) | Expression::Negate(a) => {
-            unary_value(unary(e), a.get())
-        }
-        Expression::Ternary(condition, a, b) => ternary_value(condition.get(), a.get(), b.get()),
-        Expression::LocationCounter
-        | Expression::SizeofHeaders
-        | Expression::Symbol(_)
-        | Expression::Sizeof(_)
-        | Expression::Alignof(_)
-        | Expression::Addr(_)
-        | Expression::Loadaddr(_)
-        | Expression::Origin(_)
-        | Expression::Length(_)
-        | Expression::Defined(_)
-        | Expression::Align(_, _)
-        | Expression::SegmentStart(_, _)
-        | Expression::Assert(_) => Err(ConstFault::NotConstant),
+    match e.shape() {
+        Shape::Number(number) => Ok(number),
+        Shape::Arithmetic(operator, a, b) => arithmetic_value(operator, a, b),
+        Shape::Division(operator, a, b) => division_value(operator, a, b),
+        Shape::Comparison(operator, a, b) => comparison_value(operator, a, b),
+        Shape::Connective(operator, a, b) => connective_value(operator, a, b),
+        Shape::Unary(operator, a) => unary_value(operator, a),
+        Shape::Ternary(condition, a, b) => ternary_value(condition, a, b),
+        Shape::LocationCounter
+        | Shape::SizeofHeaders
+        | Shape::Symbol(_)
+        | Shape::Named(_, _)
+        | Shape::Align(_, _)
+        | Shape::SegmentStart(_, _)
+        | Shape::Assert(_) => Err(ConstFault::NotConstant),
     }
 }
 

@@ -9,7 +9,8 @@ use crate::arithmetic::{holds, truth};
 use crate::marks::{absolutely, bare, over_both, relatively, unmarked_over};
 use crate::plain::Evaluator;
 use wild_base::Fault;
-use wild_value_spec::{Comparison, Point, Value};
+use wild_expression_tree::Comparison;
+use wild_value_spec::{Point, Value};
 
 impl Evaluator<'_> {
     #[tactic(auto, unfolding(wild_value_spec::specs::Value::sum_of))]

@@ -8,7 +8,6 @@ mod known;
 mod leaves;
 mod marks;
 mod named;
-mod operators;
 mod plain;
 mod scope;
 

@@ -9,7 +9,7 @@ use crate::arithmetic::truth;
 use crate::marks::{absolutely, absolutely_over, relatively_over, unmarked};
 use crate::plain::Evaluator;
 use wild_base::{Fault, Name};
-use wild_expression_tree::AssertCommand;
+use wild_expression_tree::{AssertCommand, Question};
 use wild_value_spec::{Point, Value};
 
 impl Evaluator<'_> {
@@ -25,7 +25,7 @@ impl Evaluator<'_> {
     }
 
     #[tactic(auto, unfolding(wild_value_spec::specs::Value::size))]
-    pub(crate) fn size(&self, name: &Name) -> Result<Value, Fault>
+    fn size(&self, name: &Name) -> Result<Value, Fault>
         ensures value { Returns result (spec.size self.now name.now) }
         ensures height { IfOk result (λ v. v.height ≤ 1) }
     {
@@ -36,7 +36,7 @@ impl Evaluator<'_> {
     }
 
     #[tactic(auto, unfolding(wild_value_spec::specs::Value::alignment))]
-    pub(crate) fn alignment(&self, name: &Name) -> Value
+    fn alignment(&self, name: &Name) -> Value
         ensures value { result ≡ spec.alignment self.now name.now }
         ensures height { result.height ≤ 1 }
     {
@@ -56,7 +56,7 @@ impl Evaluator<'_> {
     }
 
     #[tactic(auto, unfolding(wild_value_spec::specs::Value::start_named))]
-    pub(crate) fn start_named(&self, name: &Name) -> Result<Value, Fault>
+    fn start_named(&self, name: &Name) -> Result<Value, Fault>
         ensures value { Returns result (spec.start_named self.now name.now) }
         ensures height { IfOk result (λ v. v.height ≤ 1) }
     {
@@ -67,7 +67,7 @@ impl Evaluator<'_> {
     }
 
     #[tactic(auto, unfolding(wild_value_spec::specs::Value::load_named))]
-    pub(crate) fn load_named(&self, name: &Name) -> Result<Value, Fault>
+    fn load_named(&self, name: &Name) -> Result<Value, Fault>
         ensures value { Returns result (spec.load_named self.now name.now) }
         ensures height { IfOk result (λ v. v.height ≤ 1) }
     {
@@ -78,11 +78,35 @@ impl Evaluator<'_> {
     }
 
     #[tactic(auto, unfolding(wild_value_spec::specs::Value::defined_value))]
-    pub(crate) fn defined_value(&self, name: &Name) -> Value
+    fn defined_value(&self, name: &Name) -> Value
         ensures value { result ≡ spec.defined_value self.now name.now }
         ensures height { result.height ≤ 1 }
     {
         unmarked(truth(self.scope.definition(name).is_some()))
+    }
+
+    pub(crate) fn unsupported(&self) -> Result<Value, Fault>
+        ensures value { result ≡ Err (fault.Unsupported self.now.statement) }
+        ensures height { IfOk result (λ v. v.height ≤ 1) }
+    {
+        Err(Fault::Unsupported {
+            index: self.statement,
+        })
+    }
+
+    // What is asked of a name.
+    pub(crate) fn named_value(&self, question: Question, name: &Name) -> Result<Value, Fault>
+        ensures value { Returns result (spec.named_value self.now question name.now) }
+        ensures height { IfOk result (λ v. v.height ≤ 1) }
+    {
+        match question {
+            Question::Sizeof => self.size(name),
+            Question::Alignof => Ok(self.alignment(name)),
+            Question::Addr => self.start_named(name),
+            Question::Loadaddr => self.load_named(name),
+            Question::Origin | Question::Length => self.unsupported(),
+            Question::Defined => Ok(self.defined_value(name)),
+        }
     }
 
     // An address counted from the start of its section.

@@ -4,19 +4,20 @@ ghost use Rattle.std.specs.Prelude.{◌≡◌, ◌<◌, ◌≤◌, ◌+◌, IfOk
 ghost use Rattle.wild_eval.specs.Plain as spec;
 ghost use Rattle.wild_eval.specs.Scope.{path_of, scope_of, shown_definition};
 ghost use Rattle.wild_eval.specs.Addresses.{known_of};
+ghost use Rattle.wild_expression_tree.specs.Shape.{seen_held};
 ghost use Rattle.wild_value_spec.specs.Answer.{Returns};
 ghost use Rattle.wild_value_spec.specs.Value as value;
 
 use crate::addresses::Addresses;
 use crate::arithmetic::{apply, change, decides, divide, truth_of};
 use crate::marks::{over, over_both, unmarked};
-use crate::operators::{arithmetic, comparison, connective, division, unary};
 use crate::scope::{Definition, Path, Scope};
-use sqlite_items::Boxed;
 use std::alloc::Global;
 use wild_base::{Fault, Name};
-use wild_expression_tree::{AssertCommand, Expression};
-use wild_value_spec::{Arithmetic, Comparison, Connective, Division, Point, Unary, Value};
+use wild_expression_tree::{
+    Arithmetic, AssertCommand, Comparison, Connective, Division, Expression, Shape, Unary,
+};
+use wild_value_spec::{Point, Value};
 
 /// The largest height of a value.
 const MAX_HEIGHT: usize = 1024;
@@ -99,54 +100,20 @@ impl Evaluator<'_> {
         ensures value { Returns result (spec.node self.now levels (path_of path.now) tree.now point) }
         ensures height { IfOk result (λ v. v.height ≤ levels + 1) }
     {
-        match tree {
-            Expression::Number(number) => Ok(unmarked(*number)),
-            Expression::LocationCounter => self.counter(point),
-            Expression::Add(a, b)
-            | Expression::Subtract(a, b)
-            | Expression::Multiply(a, b)
-            | Expression::BitwiseAnd(a, b)
-            | Expression::BitwiseOr(a, b)
-            | Expression::BitwiseXor(a, b)
-            | Expression::LeftShift(a, b)
-            | Expression::RightShift(a, b)
-            | Expression::Min(a, b)
-            | Expression::Max(a, b) => {
-                self.arithmetic_value(levels, path, arithmetic(tree), a.get(), b.get(), point)
-            }
-            Expression::Divide(a, b) | Expression::Modulo(a, b) => {
-                self.division_value(levels, path, division(tree), a.get(), b.get(), point)
-            }
-            Expression::LessEqual(a, b)
-            | Expression::GreaterEqual(a, b)
-            | Expression::Equal(a, b)
-            | Expression::NotEqual(a, b)
-            | Expression::LessThan(a, b)
-            | Expression::GreaterThan(a, b) => {
-                self.comparison_value(levels, path, comparison(tree), a.get(), b.get(), point)
-            }
-            Expression::LogicalAnd(a, b) | Expression::LogicalOr(a, b) => {
-                self.connective_value(levels, path, connective(tree), a.get(), b.get(), point)
-            }
-            Expression::LogicalNot(a) | Expression::BitwiseNot(a) | Expression::Negate(a) => {
-                self.unary_value(levels, path, unary(tree), a.get(), point)
-            }
-            Expression::Ternary(condition, a, b) => {
-                self.ternary_value(levels, path, condition.get(), a.get(), b.get(), point)
-            }
-            Expression::Align(alignment, held) => {
-                self.align_value(levels, path, alignment.get(), held, point)
-            }
-            Expression::Symbol(name) => self.symbol(levels, path, name, point),
-            Expression::Sizeof(name) => self.size(name),
-            Expression::Alignof(name) => Ok(self.alignment(name)),
-            Expression::Addr(name) => self.start_named(name),
-            Expression::Loadaddr(name) => self.load_named(name),
-            Expression::Defined(name) => Ok(self.defined_value(name)),
-            Expression::Assert(command) => self.assert_value(levels, path, command, point),
-            _ => Err(Fault::Unsupported {
-                index: self.statement,
-            }),
+        match tree.shape() {
+            Shape::Number(number) => Ok(unmarked(number)),
+            Shape::LocationCounter => self.counter(point),
+            Shape::Symbol(name) => self.symbol(levels, path, name, point),
+            Shape::Named(question, name) => self.named_value(question, name),
+            Shape::Arithmetic(o, a, b) => self.arithmetic_value(levels, path, o, a, b, point),
+            Shape::Division(o, a, b) => self.division_value(levels, path, o, a, b, point),
+            Shape::Comparison(o, a, b) => self.comparison_value(levels, path, o, a, b, point),
+            Shape::Connective(o, a, b) => self.connective_value(levels, path, o, a, b, point),
+            Shape::Unary(o, a) => self.unary_value(levels, path, o, a, point),
+            Shape::Ternary(c, a, b) => self.ternary_value(levels, path, c, a, b, point),
+            Shape::Align(alignment, held) => self.align_value(levels, path, alignment, held, point),
+            Shape::Assert(command) => self.assert_value(levels, path, command, point),
+            Shape::SizeofHeaders | Shape::SegmentStart(_, _) => self.unsupported(),
         }
     }
 
@@ -289,11 +256,11 @@ impl Evaluator<'_> {
         levels: usize,
         path: &Path<'_>,
         alignment: &Expression,
-        held: &Option<Boxed<Expression>>,
+        held: Option<&Expression>,
         point: Point,
     ) -> Result<Value, Fault>
         requires { levels < 1024 }
-        ensures value { Returns result (spec.align_value self.now levels (path_of path.now) alignment.now held.now point) }
+        ensures value { Returns result (spec.align_value self.now levels (path_of path.now) alignment.now (seen_held held.entry) point) }
         ensures height { IfOk result (λ v. v.height ≤ levels + 1) }
     {
         let x = self.value(levels, path, alignment, point)?;
@@ -312,15 +279,15 @@ impl Evaluator<'_> {
         &self,
         levels: usize,
         path: &Path<'_>,
-        held: &Option<Boxed<Expression>>,
+        held: Option<&Expression>,
         point: Point,
     ) -> Result<Value, Fault>
         requires { levels < 1024 }
-        ensures value { Returns result (spec.subject self.now levels (path_of path.now) held.now point) }
+        ensures value { Returns result (spec.subject self.now levels (path_of path.now) (seen_held held.entry) point) }
         ensures height { IfOk result (λ v. v.height ≤ levels) }
     {
         match held {
-            Some(expression) => self.value(levels, path, expression.get(), point),
+            Some(expression) => self.value(levels, path, expression, point),
             None => self.counter_number(point),
         }
     }
@@ -408,7 +375,7 @@ impl Evaluator<'_> {
         point: Point,
     ) -> Result<Value, Fault>
         requires { levels < 1024 }
-        ensures value { Returns result (spec.assert_value self.now levels (path_of path.now) command.now point) }
+        ensures value { Returns result (spec.assert_value self.now levels (path_of path.now) command.now.expression command.now.message command.now.at point) }
         ensures height { IfOk result (λ v. v.height ≤ levels + 1) }
     {
         let condition = self.value(levels, path, command.expression.get(), point)?;

@@ -1,2 +1,3 @@
 pub mod Shapes
 pub mod Rebuilt
+pub mod Folded

@@ -2,9 +2,13 @@
 #![tactic(auto)]
 
 mod equality;
+mod operator;
+mod shape;
 mod tree;
 
 pub use equality::equality_is_sameness;
+pub use operator::{Arithmetic, Comparison, Connective, Division, Question, Unary};
+pub use shape::Shape;
 pub use tree::{AssertCommand, Expression};
 
 #[cfg(test)]

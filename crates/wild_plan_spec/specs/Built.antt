@@ -1,54 +1,34 @@
 -- Which expressions are built.
 use Rattle.std.specs.Prelude.{Bool, true, false, ◌&&◌}
-use Rattle.wild_expression_tree.specs.declared.tree.Expression.{Expression, Held-Expression-Align-1, Row_of-Expression, end_of-Expression, more_of-Expression, None', Some', Number, LocationCounter, SizeofHeaders, Symbol, Sizeof, Alignof, Addr, Loadaddr, Origin, Length, Defined, LogicalOr', LogicalAnd', LessEqual', GreaterEqual', Equal', NotEqual', LessThan', GreaterThan', BitwiseOr', BitwiseXor', BitwiseAnd', LeftShift', RightShift', Add', Subtract', Multiply', Divide', Modulo', LogicalNot', BitwiseNot', Negate', Ternary', Min', Max', Align', SegmentStart', Assert'}
+use Rattle.std.specs.Option.{unwrap_or}
+use Rattle.wild_expression_tree.specs.declared.operator.Question.{Question}
+use Rattle.wild_expression_tree.specs.declared.operator.Question.TheVariants.{Origin, Length}
+use Rattle.wild_expression_tree.specs.declared.tree.Expression.{Expression}
+use Rattle.wild_expression_tree.specs.Shape.{Shape, Number, LocationCounter, Symbol, Named, Ternary, Align, Assert, fold}
 
--- numbers, the location counter, operators, MIN, MAX and ALIGN, and nothing else anywhere; where names are built, also
--- what names a symbol or a section, and ASSERT
-abbrev mutual
-  pub is_built : Bool → Expression → Bool
-  is_built names (Number n) = true
-  is_built names LocationCounter = true
-  is_built names SizeofHeaders = false
-  is_built names (Symbol s) = names
-  is_built names (Sizeof s) = names
-  is_built names (Alignof s) = names
-  is_built names (Addr s) = names
-  is_built names (Loadaddr s) = names
-  is_built names (Origin s) = false
-  is_built names (Length s) = false
-  is_built names (Defined s) = names
-  is_built names (LogicalOr' p x q y) = is_row_built names x && is_row_built names y
-  is_built names (LogicalAnd' p x q y) = is_row_built names x && is_row_built names y
-  is_built names (LessEqual' p x q y) = is_row_built names x && is_row_built names y
-  is_built names (GreaterEqual' p x q y) = is_row_built names x && is_row_built names y
-  is_built names (Equal' p x q y) = is_row_built names x && is_row_built names y
-  is_built names (NotEqual' p x q y) = is_row_built names x && is_row_built names y
-  is_built names (LessThan' p x q y) = is_row_built names x && is_row_built names y
-  is_built names (GreaterThan' p x q y) = is_row_built names x && is_row_built names y
-  is_built names (BitwiseOr' p x q y) = is_row_built names x && is_row_built names y
-  is_built names (BitwiseXor' p x q y) = is_row_built names x && is_row_built names y
-  is_built names (BitwiseAnd' p x q y) = is_row_built names x && is_row_built names y
-  is_built names (LeftShift' p x q y) = is_row_built names x && is_row_built names y
-  is_built names (RightShift' p x q y) = is_row_built names x && is_row_built names y
-  is_built names (Add' p x q y) = is_row_built names x && is_row_built names y
-  is_built names (Subtract' p x q y) = is_row_built names x && is_row_built names y
-  is_built names (Multiply' p x q y) = is_row_built names x && is_row_built names y
-  is_built names (Divide' p x q y) = is_row_built names x && is_row_built names y
-  is_built names (Modulo' p x q y) = is_row_built names x && is_row_built names y
-  is_built names (Min' p x q y) = is_row_built names x && is_row_built names y
-  is_built names (Max' p x q y) = is_row_built names x && is_row_built names y
-  is_built names (LogicalNot' p x) = is_row_built names x
-  is_built names (BitwiseNot' p x) = is_row_built names x
-  is_built names (Negate' p x) = is_row_built names x
-  is_built names (Ternary' p x q y r z) = is_row_built names x && (is_row_built names y && is_row_built names z)
-  is_built names (Align' p x held) = is_row_built names x && is_held_built names held
-  is_built names (SegmentStart' s p x) = false
-  is_built names (Assert' p x message at) = names && is_row_built names x
+-- what is asked of a section or a symbol, where names are built; nothing of memory regions
+abbrev pub is_question_built : Bool → Question → Bool
+is_question_built names Origin = false
+is_question_built names Length = false
+is_question_built names q = names
 
-  pub is_held_built : Bool → Held-Expression-Align-1 → Bool
-  is_held_built names None' = true
-  is_held_built names (Some' p x) = is_row_built names x
+-- a node over parts of which this is known: numbers, the location counter, operators, MIN, MAX and ALIGN, whose parts are
+-- built; where names are built, also what names a symbol or a section, and ASSERT
+abbrev pub is_node_built : Bool → Shape Bool → Bool
+is_node_built names (Number n) = true
+is_node_built names LocationCounter = true
+is_node_built names (Symbol name) = names
+is_node_built names (Named q name) = is_question_built names q
+is_node_built names (Shape.Arithmetic o x y) = x && y
+is_node_built names (Shape.Division o x y) = x && y
+is_node_built names (Shape.Comparison o x y) = x && y
+is_node_built names (Shape.Connective o x y) = x && y
+is_node_built names (Shape.Unary o x) = x
+is_node_built names (Ternary x y z) = x && (y && z)
+is_node_built names (Align x y) = x && unwrap_or y true
+is_node_built names (Assert x message at) = names && x
+is_node_built names s = false
 
-  pub is_row_built : {m : _} → Bool → Row_of-Expression m → Bool
-  is_row_built names end_of-Expression = true
-  is_row_built names (more_of-Expression x rest) = is_built names x
+-- each node of the expression
+abbrev pub is_built : Bool → Expression → Bool
+is_built names = fold (is_node_built names)

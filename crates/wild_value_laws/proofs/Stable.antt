@@ -2,21 +2,22 @@
 use Rattle.std.proofs.Common.{◌≡◌, ℕ, zero, suc, Bool, true, false, not, ◌||◌, ◌==◌, cond, List, ◌∷◌, Option, Some, None, Result, Ok, Err, refl, inl, inr, ap, sym, subst}
 use Rattle.wild_names.specs.declared.fault.Fault.{Fault}
 use Rattle.wild_names.specs.declared.fault.Fault.TheVariants.{NotLaidOut, AlignZero, SymbolCycle}
-use Rattle.wild_expression_tree.specs.declared.tree.AssertCommand.{AssertCommand}
-use Rattle.wild_expression_tree.specs.declared.tree.Expression.{Expression, out-Expression}
-use Rattle.wild_expression_tree.specs.declared.tree.Expression.TheOpen.{Expression-F}
-use Rattle.wild_value_spec.specs.declared.operator.Arithmetic.{Arithmetic}
-use Rattle.wild_value_spec.specs.declared.operator.Comparison.{Comparison}
-use Rattle.wild_value_spec.specs.declared.operator.Connective.{Connective}
-use Rattle.wild_value_spec.specs.declared.operator.Division.{Division}
-use Rattle.wild_value_spec.specs.declared.operator.Unary.{Unary}
+use Rattle.wild_expression_tree.specs.declared.tree.Expression.{Expression}
+use Rattle.wild_expression_tree.specs.Shape.{Shape, Number, LocationCounter, Symbol, Named, Ternary, Align, Assert, shape}
+use Rattle.wild_expression_tree.specs.declared.operator.Arithmetic.{Arithmetic}
+use Rattle.wild_expression_tree.specs.declared.operator.Comparison.{Comparison}
+use Rattle.wild_expression_tree.specs.declared.operator.Connective.{Connective}
+use Rattle.wild_expression_tree.specs.declared.operator.Division.{Division}
+use Rattle.wild_expression_tree.specs.declared.operator.Question.{Question}
+use Rattle.wild_expression_tree.specs.declared.operator.Question.TheVariants as question
+use Rattle.wild_expression_tree.specs.declared.operator.Unary.{Unary}
 use Rattle.wild_value_spec.specs.declared.value.Point.{Point}
 use Rattle.wild_value_spec.specs.declared.value.Value.{Value}
 use Rattle.wild_value_spec.specs.Answer.{◌>>=◌, or_fault}
 use Rattle.wild_value_spec.specs.Known.{Known, Asked, IsPart, Start, Load, End, Address, Dot}
 use Rattle.wild_value_spec.specs.Marks.{absolutely_over, over, over_both}
 use Rattle.wild_value_spec.specs.Numbers.{divided_by, decides, truth, is_true}
-use Rattle.wild_value_spec.specs.Scope.{Name, Layer, Definition, OfRow, OfScript, Scope}
+use Rattle.wild_value_spec.specs.Scope.{Name, Definition, OfRow, OfScript, Scope}
 use Rattle.wild_value_spec.specs.Value as v
 use Rattle.wild_value_laws.specs.Stable.{IsEarly, Stays}
 
@@ -137,6 +138,14 @@ module _ (scope : Scope) (statement : ℕ) (known more : Known) (part : IsPart k
   unfolding v.load_named
   load_named name = address_in _ _ load name (scope.«section» name)
 
+  named_value : (q : Question) (name : Name) → Stays (v.named_value scope statement known q name) (v.named_value scope statement more q name)
+  named_value question.Sizeof name = size name
+  named_value question.Alignof name = alignment name
+  named_value question.Addr name = start_named name
+  named_value question.Loadaddr name = load_named name
+  named_value question.Defined name = defined_value name
+  named_value q name = same _
+
   from_start : (name : Name) (address height start : ℕ) → Stays (v.from_start scope statement known name address height start) (v.from_start scope statement more name address height start)
   unfolding v.from_start
   from_start name address height start = same _
@@ -205,51 +214,29 @@ module _ (scope : Scope) (statement : ℕ) (known more : Known) (part : IsPart k
     unfolding v.symbol
     symbol name p = symbol_in name (scope.definition name) p
 
-    assert_value : (command : AssertCommand) (p : Point) → Stays (v.assert_value scope statement known eval path command p) (v.assert_value scope statement more with path command p)
+    assert_value : (c : Expression) (message : Name) (at : ℕ) (p : Point) → Stays (v.assert_value scope statement known eval path c message at p) (v.assert_value scope statement more with path c message at p)
     unfolding v.assert_value
-    assert_value command p = on _ _ _ _ (h path command.expression p) (λ x. same _)
+    assert_value c message at p = on _ _ _ _ (h path c p) (λ x. same _)
 
-    node : (p : Point) (e : Layer) → Stays (v.node scope statement known eval path p e) (v.node scope statement more with path p e)
-    node p (Expression-F.Number n) = same _
-    node p Expression-F.LocationCounter = counter p
-    node p (Expression-F.Add a b) = arithmetic_value _ a b p
-    node p (Expression-F.Subtract a b) = arithmetic_value _ a b p
-    node p (Expression-F.Multiply a b) = arithmetic_value _ a b p
-    node p (Expression-F.BitwiseAnd a b) = arithmetic_value _ a b p
-    node p (Expression-F.BitwiseOr a b) = arithmetic_value _ a b p
-    node p (Expression-F.BitwiseXor a b) = arithmetic_value _ a b p
-    node p (Expression-F.LeftShift a b) = arithmetic_value _ a b p
-    node p (Expression-F.RightShift a b) = arithmetic_value _ a b p
-    node p (Expression-F.Min a b) = arithmetic_value _ a b p
-    node p (Expression-F.Max a b) = arithmetic_value _ a b p
-    node p (Expression-F.Divide a b) = division_value _ a b p
-    node p (Expression-F.Modulo a b) = division_value _ a b p
-    node p (Expression-F.LessEqual a b) = comparison_value _ a b p
-    node p (Expression-F.GreaterEqual a b) = comparison_value _ a b p
-    node p (Expression-F.Equal a b) = comparison_value _ a b p
-    node p (Expression-F.NotEqual a b) = comparison_value _ a b p
-    node p (Expression-F.LessThan a b) = comparison_value _ a b p
-    node p (Expression-F.GreaterThan a b) = comparison_value _ a b p
-    node p (Expression-F.LogicalAnd a b) = connective_value _ a b p
-    node p (Expression-F.LogicalOr a b) = connective_value _ a b p
-    node p (Expression-F.LogicalNot a) = unary_value _ a p
-    node p (Expression-F.BitwiseNot a) = unary_value _ a p
-    node p (Expression-F.Negate a) = unary_value _ a p
-    node p (Expression-F.Ternary c a b) = ternary_value c a b p
-    node p (Expression-F.Align n a) = align_value n a p
-    node p (Expression-F.Symbol name) = symbol name p
-    node p (Expression-F.Sizeof name) = size name
-    node p (Expression-F.Alignof name) = alignment name
-    node p (Expression-F.Addr name) = start_named name
-    node p (Expression-F.Loadaddr name) = load_named name
-    node p (Expression-F.Defined name) = defined_value name
-    node p (Expression-F.Assert command) = assert_value command p
-    node p e = same _
+    node : (p : Point) (s : Shape Expression) → Stays (v.node scope statement known eval path p s) (v.node scope statement more with path p s)
+    node p (Number n) = same _
+    node p LocationCounter = counter p
+    node p (Symbol name) = symbol name p
+    node p (Named q name) = named_value q name
+    node p (Shape.Arithmetic o a b) = arithmetic_value o a b p
+    node p (Shape.Division o a b) = division_value o a b p
+    node p (Shape.Comparison o a b) = comparison_value o a b p
+    node p (Shape.Connective o a b) = connective_value o a b p
+    node p (Shape.Unary o a) = unary_value o a p
+    node p (Ternary c a b) = ternary_value c a b p
+    node p (Align n a) = align_value n a p
+    node p (Assert c message at) = assert_value c message at p
+    node p s = same _
 
   value_stays : (levels : ℕ) (path : List Name) (e : Expression) (p : Point) → Stays (v.value scope statement known levels path e p) (v.value scope statement more levels path e p)
   unfolding v.value
   value_stays zero path e p = same _
-  value_stays (suc levels) path e p = node (v.value scope statement known levels) (v.value scope statement more levels) path (value_stays levels) p (out-Expression e)
+  value_stays (suc levels) path e p = node (v.value scope statement known levels) (v.value scope statement more levels) path (value_stays levels) p (shape e)
 
   full_stays : (levels : ℕ) (path : List Name) (e : Expression) (p : Point) → Stays (v.full scope statement known levels path e p) (v.full scope statement more levels path e p)
   unfolding v.full

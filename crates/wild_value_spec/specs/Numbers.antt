@@ -1,16 +1,16 @@
 -- What the operators make of numbers of 64 bits.
 use Rattle.std.specs.Prelude.{ℕ, ◌+◌, ◌-◌, ◌*◌, ◌/◌, ◌%◌, ◌^◌, min, max, bit_and, bit_or, bit_xor, Bool, true, false, not, ◌==◌, nat_le, nat_lt, int_div, int_rem}
 use Rattle.std.specs.Int.{w64, cast_signed, cast_unsigned}
-use Rattle.wild_value_spec.specs.declared.operator.Arithmetic.{Arithmetic}
-use Rattle.wild_value_spec.specs.declared.operator.Arithmetic.TheVariants.{Add, Subtract, Multiply, BitwiseAnd, BitwiseOr, BitwiseXor, LeftShift, RightShift, Min, Max}
-use Rattle.wild_value_spec.specs.declared.operator.Comparison.{Comparison}
-use Rattle.wild_value_spec.specs.declared.operator.Comparison.TheVariants.{LessEqual, GreaterEqual, Equal, NotEqual, LessThan, GreaterThan}
-use Rattle.wild_value_spec.specs.declared.operator.Connective.{Connective}
-use Rattle.wild_value_spec.specs.declared.operator.Connective.TheVariants.{LogicalAnd, LogicalOr}
-use Rattle.wild_value_spec.specs.declared.operator.Division.{Division}
-use Rattle.wild_value_spec.specs.declared.operator.Division.TheVariants.{Divide, Modulo}
-use Rattle.wild_value_spec.specs.declared.operator.Unary.{Unary}
-use Rattle.wild_value_spec.specs.declared.operator.Unary.TheVariants.{LogicalNot, BitwiseNot, Negate}
+use Rattle.wild_expression_tree.specs.declared.operator.Arithmetic.{Arithmetic}
+use Rattle.wild_expression_tree.specs.declared.operator.Arithmetic.TheVariants.{Add, Subtract, Multiply, BitwiseAnd, BitwiseOr, BitwiseXor, LeftShift, RightShift, Min, Max}
+use Rattle.wild_expression_tree.specs.declared.operator.Comparison.{Comparison}
+use Rattle.wild_expression_tree.specs.declared.operator.Comparison.TheVariants.{LessEqual, GreaterEqual, Equal, NotEqual, LessThan, GreaterThan}
+use Rattle.wild_expression_tree.specs.declared.operator.Connective.{Connective}
+use Rattle.wild_expression_tree.specs.declared.operator.Connective.TheVariants.{LogicalAnd, LogicalOr}
+use Rattle.wild_expression_tree.specs.declared.operator.Division.{Division}
+use Rattle.wild_expression_tree.specs.declared.operator.Division.TheVariants.{Divide, Modulo}
+use Rattle.wild_expression_tree.specs.declared.operator.Unary.{Unary}
+use Rattle.wild_expression_tree.specs.declared.operator.Unary.TheVariants.{LogicalNot, BitwiseNot, Negate}
 
 -- sums, differences and products wrap; a shift is by the right side modulo 64, and drops what it moves out
 unfoldable pub arithmetic_result : Arithmetic → ℕ → ℕ → ℕ

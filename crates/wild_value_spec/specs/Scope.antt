@@ -1,16 +1,10 @@
 -- What an expression is read by, beside what is known of the layout.
 use Rattle.std.specs.Prelude.{ℕ, ◌+◌, ◌==◌, List, Option, count_by, take}
-use Rattle.wild_expression_tree.specs.declared.tree.AssertCommand.{AssertCommand}
 use Rattle.wild_expression_tree.specs.declared.tree.Expression.{Expression}
-use Rattle.wild_expression_tree.specs.declared.tree.Expression.TheOpen.{Expression-F}
 use Rattle.wild_value_spec.specs.declared.value.Point.{Point}
 
 abbrev pub Name : Type 0
 Name = List ℕ
-
--- one level of an expression
-abbrev pub Layer : Type 0
-Layer = Expression-F Expression AssertCommand
 
 -- what a symbol is
 pub data Definition : Type 0 where

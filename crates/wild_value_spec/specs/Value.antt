@@ -7,25 +7,23 @@ use Rattle.wild_ids.specs.Alignment.{rounded_up}
 use Rattle.wild_names.specs.declared.fault.Fault.{Fault}
 use Rattle.wild_names.specs.declared.fault.Fault.TheVariants.{DivisionByZero, ModuloByZero, AlignZero, UnknownSection, UnknownSymbol, NotLaidOut, SymbolCycle, DeepValue, BeforeSection, Overflow, AlignOverflow, AssertFailed, Unsupported}
 use Rattle.wild_expression_tree.specs.declared.tree.AssertCommand.{AssertCommand}
-use Rattle.wild_expression_tree.specs.declared.tree.Expression.{Expression, out-Expression}
-use Rattle.wild_expression_tree.specs.declared.tree.Expression.TheOpen.{Expression-F}
-use Rattle.wild_value_spec.specs.declared.operator.Arithmetic.{Arithmetic}
-use Rattle.wild_value_spec.specs.declared.operator.Arithmetic.TheVariants as arithmetic
-use Rattle.wild_value_spec.specs.declared.operator.Comparison.{Comparison}
-use Rattle.wild_value_spec.specs.declared.operator.Comparison.TheVariants as comparison
-use Rattle.wild_value_spec.specs.declared.operator.Connective.{Connective}
-use Rattle.wild_value_spec.specs.declared.operator.Connective.TheVariants as connective
-use Rattle.wild_value_spec.specs.declared.operator.Division.{Division}
-use Rattle.wild_value_spec.specs.declared.operator.Division.TheVariants as division
-use Rattle.wild_value_spec.specs.declared.operator.Unary.{Unary}
-use Rattle.wild_value_spec.specs.declared.operator.Unary.TheVariants as unary
+use Rattle.wild_expression_tree.specs.declared.tree.Expression.{Expression}
+use Rattle.wild_expression_tree.specs.Shape.{Shape, Number, LocationCounter, SizeofHeaders, Symbol, Named, Ternary, Align, SegmentStart, Assert, shape}
+use Rattle.wild_expression_tree.specs.declared.operator.Arithmetic.{Arithmetic}
+use Rattle.wild_expression_tree.specs.declared.operator.Comparison.{Comparison}
+use Rattle.wild_expression_tree.specs.declared.operator.Connective.{Connective}
+use Rattle.wild_expression_tree.specs.declared.operator.Division.{Division}
+use Rattle.wild_expression_tree.specs.declared.operator.Division.TheVariants as division
+use Rattle.wild_expression_tree.specs.declared.operator.Question.{Question}
+use Rattle.wild_expression_tree.specs.declared.operator.Question.TheVariants as question
+use Rattle.wild_expression_tree.specs.declared.operator.Unary.{Unary}
 use Rattle.wild_value_spec.specs.declared.value.Point.{Point}
 use Rattle.wild_value_spec.specs.declared.value.Value.{Value}
 use Rattle.wild_value_spec.specs.Answer.{◌>>=◌, or_fault}
 use Rattle.wild_value_spec.specs.Known.{Known, Start, Load, End, Address, Dot}
 use Rattle.wild_value_spec.specs.Marks.{bare, unmarked, absolutely, relatively, absolutely_over, relatively_over, over, over_both, unmarked_over}
 use Rattle.wild_value_spec.specs.Numbers.{arithmetic_result, divided_by, holds, decides, unary_result, truth, is_true}
-use Rattle.wild_value_spec.specs.Scope.{Name, Layer, Definition, OfRow, OfScript, Scope}
+use Rattle.wild_value_spec.specs.Scope.{Name, Definition, OfRow, OfScript, Scope}
 
 -- ---- faults and choices
 
@@ -146,6 +144,16 @@ module _ (scope : Scope) (statement : ℕ) (known : Known) where
   unfoldable pub defined_value : Name → Value
   defined_value name = unmarked (truth (is_some (scope.definition name)))
 
+  -- what is asked of a name
+  abbrev pub named_value : Question → Name → Result Value Fault
+  named_value question.Sizeof name = size name
+  named_value question.Alignof name = Ok (alignment name)
+  named_value question.Addr name = start_named name
+  named_value question.Loadaddr name = load_named name
+  named_value question.Origin name = Err (Unsupported statement)
+  named_value question.Length name = Err (Unsupported statement)
+  named_value question.Defined name = Ok (defined_value name)
+
   -- an address counted from the start of its section, of parts of this height
   unfoldable pub from_start : Name → ℕ → ℕ → ℕ → Result Value Fault
   from_start name address height start =
@@ -231,53 +239,31 @@ module _ (scope : Scope) (statement : ℕ) (known : Known) where
     unfoldable pub symbol : Name → Point → Result Value Fault
     symbol name p = symbol_in name (scope.definition name) p
 
-    -- a condition, which must not be 0
-    unfoldable pub assert_value : AssertCommand → Point → Result Value Fault
-    assert_value command p =
-        part command.expression p >>= (λ x.
-        if x.number == 0 then Err (AssertFailed (scope.line command.at) command.message) else Ok (over x.number x))
+    -- a condition, which must not be 0; what is said where it is, and where its bracket stands
+    unfoldable pub assert_value : Expression → Name → ℕ → Point → Result Value Fault
+    assert_value c message at p =
+        part c p >>= (λ x. if x.number == 0 then Err (AssertFailed (scope.line at) message) else Ok (over x.number x))
 
-    abbrev pub node : Point → Layer → Result Value Fault
-    node p (Expression-F.Number n) = Ok (unmarked n)
-    node p Expression-F.LocationCounter = counter p
-    node p (Expression-F.Add a b) = arithmetic_value arithmetic.Add a b p
-    node p (Expression-F.Subtract a b) = arithmetic_value arithmetic.Subtract a b p
-    node p (Expression-F.Multiply a b) = arithmetic_value arithmetic.Multiply a b p
-    node p (Expression-F.BitwiseAnd a b) = arithmetic_value arithmetic.BitwiseAnd a b p
-    node p (Expression-F.BitwiseOr a b) = arithmetic_value arithmetic.BitwiseOr a b p
-    node p (Expression-F.BitwiseXor a b) = arithmetic_value arithmetic.BitwiseXor a b p
-    node p (Expression-F.LeftShift a b) = arithmetic_value arithmetic.LeftShift a b p
-    node p (Expression-F.RightShift a b) = arithmetic_value arithmetic.RightShift a b p
-    node p (Expression-F.Min a b) = arithmetic_value arithmetic.Min a b p
-    node p (Expression-F.Max a b) = arithmetic_value arithmetic.Max a b p
-    node p (Expression-F.Divide a b) = division_value division.Divide a b p
-    node p (Expression-F.Modulo a b) = division_value division.Modulo a b p
-    node p (Expression-F.LessEqual a b) = comparison_value comparison.LessEqual a b p
-    node p (Expression-F.GreaterEqual a b) = comparison_value comparison.GreaterEqual a b p
-    node p (Expression-F.Equal a b) = comparison_value comparison.Equal a b p
-    node p (Expression-F.NotEqual a b) = comparison_value comparison.NotEqual a b p
-    node p (Expression-F.LessThan a b) = comparison_value comparison.LessThan a b p
-    node p (Expression-F.GreaterThan a b) = comparison_value comparison.GreaterThan a b p
-    node p (Expression-F.LogicalAnd a b) = connective_value connective.LogicalAnd a b p
-    node p (Expression-F.LogicalOr a b) = connective_value connective.LogicalOr a b p
-    node p (Expression-F.LogicalNot a) = unary_value unary.LogicalNot a p
-    node p (Expression-F.BitwiseNot a) = unary_value unary.BitwiseNot a p
-    node p (Expression-F.Negate a) = unary_value unary.Negate a p
-    node p (Expression-F.Ternary c a b) = ternary_value c a b p
-    node p (Expression-F.Align n a) = align_value n a p
-    node p (Expression-F.Symbol name) = symbol name p
-    node p (Expression-F.Sizeof name) = size name
-    node p (Expression-F.Alignof name) = Ok (alignment name)
-    node p (Expression-F.Addr name) = start_named name
-    node p (Expression-F.Loadaddr name) = load_named name
-    node p (Expression-F.Defined name) = Ok (defined_value name)
-    node p (Expression-F.Assert command) = assert_value command p
-    node p e = Err (Unsupported statement)
+    abbrev pub node : Point → Shape Expression → Result Value Fault
+    node p (Number n) = Ok (unmarked n)
+    node p LocationCounter = counter p
+    node p SizeofHeaders = Err (Unsupported statement)
+    node p (Symbol name) = symbol name p
+    node p (Named q name) = named_value q name
+    node p (Shape.Arithmetic o a b) = arithmetic_value o a b p
+    node p (Shape.Division o a b) = division_value o a b p
+    node p (Shape.Comparison o a b) = comparison_value o a b p
+    node p (Shape.Connective o a b) = connective_value o a b p
+    node p (Shape.Unary o a) = unary_value o a p
+    node p (Ternary c a b) = ternary_value c a b p
+    node p (Align n a) = align_value n a p
+    node p (SegmentStart segment a) = Err (Unsupported statement)
+    node p (Assert c message at) = assert_value c message at p
 
   -- the value of an expression at a point, where this many levels are left
   unfoldable pub value : ℕ → List Name → Expression → Point → Result Value Fault
   value zero path e p = Err (DeepValue statement)
-  value (suc h) path e p = node (value h) path p (out-Expression e)
+  value (suc h) path e p = node (value h) path p (shape e)
 
   -- the number that it stands for
   unfoldable pub full : ℕ → List Name → Expression → Point → Result ℕ Fault
@@ -285,4 +271,4 @@ module _ (scope : Scope) (statement : ℕ) (known : Known) where
 
   -- what an ASSERT statement is worth: it is a node over its condition, so that one level is taken
   unfoldable pub assert_statement : AssertCommand → Point → Result Value Fault
-  assert_statement command p = assert_value (value 1023) [] command p
+  assert_statement command p = assert_value (value 1023) [] command.expression command.message command.at p

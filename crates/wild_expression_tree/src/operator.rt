@@ -1,4 +1,4 @@
-//! Operators, which are named as the nodes of expressions that they stand in.
+//! Operators and what is asked of names, as nodes of expressions have them.
 
 /// What makes a number of two.
 #[derive(Clone, Copy, Debug, PartialEq, Eq)]
@@ -46,4 +46,23 @@ pub enum Unary {
     LogicalNot,
     BitwiseNot,
     Negate,
+}
+
+/// What is asked of a name.
+#[derive(Clone, Copy, Debug, PartialEq, Eq)]
+pub enum Question {
+    /// The size of a section, in bytes.
+    Sizeof,
+    /// The alignment of a section, in bytes.
+    Alignof,
+    /// The address of a section.
+    Addr,
+    /// The load address of a section.
+    Loadaddr,
+    /// Where a memory region begins.
+    Origin,
+    /// How many bytes a memory region has.
+    Length,
+    /// Whether a symbol is defined.
+    Defined,
 }
