@@ -130,7 +130,7 @@ fn addresses_that_do_not_fit(rt: HostRuntime) -> Result<(), Fail> {
 
 #[test]
 fn counters_without_value(rt: HostRuntime) -> Result<(), Fail> {
-    let cases: [Case<'_>; 6] = [
+    let cases: [Case<'_>; 4] = [
         (
             "no alignment",
             b"SECTIONS { . = ALIGN(0); }",
@@ -155,6 +155,14 @@ fn counters_without_value(rt: HostRuntime) -> Result<(), Fail> {
             b"",
             b"fault 1 Syntax position=22\n",
         ),
+    ];
+    assert_faults(&rt, rt.alloc(), &cases)?;
+    Ok(())
+}
+
+#[test]
+fn counters_that_are_not_built(rt: HostRuntime) -> Result<(), Fail> {
+    let cases: [Case<'_>; 2] = [
         (
             "a symbol, before two sections of one name",
             b"SECTIONS { .a : { } . = x; .a : { } }",
@@ -275,8 +283,8 @@ fn symbols_of_symbols(rt: HostRuntime) -> Result<(), Fail> {
 }
 
 #[test]
-fn names_of_symbols(rt: HostRuntime) -> Result<(), Fail> {
-    let cases: [Case<'_>; 6] = [
+fn cycles_of_symbols(rt: HostRuntime) -> Result<(), Fail> {
+    let cases: [Case<'_>; 3] = [
         (
             "two that ask for each other",
             b"a = b; b = a;",
@@ -295,6 +303,14 @@ fn names_of_symbols(rt: HostRuntime) -> Result<(), Fail> {
             b"",
             b"fault 28 SymbolCycle name=y\n",
         ),
+    ];
+    assert_faults(&rt, rt.alloc(), &cases)?;
+    Ok(())
+}
+
+#[test]
+fn names_of_symbols(rt: HostRuntime) -> Result<(), Fail> {
+    let cases: [Case<'_>; 3] = [
         (
             "an expression over two lines",
             b"x = 1\n-lfoo",
@@ -448,25 +464,27 @@ fn longest_chain(rt: HostRuntime) -> Result<(), Fail> {
 }
 
 #[test]
-fn chains_too_long(rt: HostRuntime) -> Result<(), Fail> {
+fn chain_too_long(rt: HostRuntime) -> Result<(), Fail> {
     let alloc = rt.alloc();
-    let forward = chain(alloc, 1024)?;
-    let backward = backward_chain(alloc, 1024)?;
-    let cases: [Case<'_>; 2] = [
-        (
-            "forward",
-            forward.as_bytes(),
-            b"",
-            b"fault 29 DeepValue statement=1024\n",
-        ),
-        (
-            "backward",
-            backward.as_bytes(),
-            b"",
-            b"fault 29 DeepValue statement=0\n",
-        ),
-    ];
-    assert_faults(&rt, alloc, &cases)?;
+    let script = chain(alloc, 1024)?;
+    let (answer, out, err) = planned(alloc, script.as_bytes(), b"")?;
+    assert_eq!(rt;
+        err.bytes(),
+        b"fault 29 DeepValue statement=1024\n".as_slice()
+    );
+    assert_eq!(rt; answer, 1);
+    assert_eq!(rt; out.bytes(), b"".as_slice());
+    Ok(())
+}
+
+#[test]
+fn backward_chain_too_long(rt: HostRuntime) -> Result<(), Fail> {
+    let alloc = rt.alloc();
+    let script = backward_chain(alloc, 1024)?;
+    let (answer, out, err) = planned(alloc, script.as_bytes(), b"")?;
+    assert_eq!(rt; err.bytes(), b"fault 29 DeepValue statement=0\n".as_slice());
+    assert_eq!(rt; answer, 1);
+    assert_eq!(rt; out.bytes(), b"".as_slice());
     Ok(())
 }
 

@@ -6,6 +6,10 @@ use wild_base::OutputSectionId;
 
 const CUSTOM: SectionRuleOutcome = SectionRuleOutcome::Custom;
 
+const DISCARD: SectionRuleOutcome = SectionRuleOutcome::Discard;
+
+const DEBUG: SectionRuleOutcome = SectionRuleOutcome::Debug;
+
 // Whether the rule, and a copy of it, match.
 fn both_match(
     rt: &impl Abort,
@@ -195,8 +199,6 @@ fn three_rules(alloc: Global) -> Result<SectionRules, RuleFault> {
 fn first_match(rt: HostRuntime) {
     let rules = three_rules(rt.alloc()).expect(&rt, "rules");
     let section = SectionRuleOutcome::Section(SectionOutputInfo::regular(OutputSectionId(2)));
-    let discard = SectionRuleOutcome::Discard;
-    let debug = SectionRuleOutcome::Debug;
     let file: Option<&[u8]> = Some(b"a.o");
     for (case, name, file, wanted) in [
         (
@@ -211,7 +213,7 @@ fn first_match(rt: HostRuntime) {
             Some(b"b.o".as_slice()),
             Some(debug),
         ),
-        ("no file", b".text", None, Some(debug)),
+        ("no file", b".text", None, Some(DEBUG)),
         ("the last of three", b".text.a", file, Some(section)),
         ("none", b".data", None, None),
         ("no name", b"", file, None),
