@@ -1,3 +1,3 @@
-pub mod Shapes
-pub mod Rebuilt
 pub mod Folded
+pub mod Parts
+pub mod Rebuilt

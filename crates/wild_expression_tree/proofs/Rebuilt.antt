@@ -1,194 +1,204 @@
 -- Equal expressions are the same tree, up to the positions of their asserts.
-use Rattle.std.proofs.Common.{◌≡◌, ◌∙◌, ℕ, true, ◌==◌, if◌then◌else◌, [], refl, sym, ap, true≢false, ◌≤◌, arith}
+use Rattle.std.proofs.Common.{◌≡◌, ◌∙◌, ◌==◌, ℕ, Some, None, true, refl, sym, ap, true≢false, arith}
 use Rattle.std.proofs.lemmas.Bool.{and_parts, eqb-true}
 use Rattle.std.proofs.lemmas.Slice.Eq.{bytes_eq-Decides}
-use Rattle.wild_expression_tree.specs.Equality.{Label, Shape, absent, node, label_eq, plain, segment, shape, held_shape, shape_eq, erased, erased_held, same_equiv, size, EqualityIsSameness}
-use Rattle.wild_expression_tree.proofs.Shapes.{some}
-use Rattle.wild_names.specs.declared.segment_name.SegmentName.{SegmentName}
-use Rattle.wild_names.specs.declared.segment_name.SegmentName.TheVariants.{Text, Data, Bss, Unknown}
-use Rattle.wild_expression_tree.specs.declared.tree.Expression.{Expression, Held-Expression-Align-1, end_of-Expression, more_of-Expression, None', Some', Number, LocationCounter, SizeofHeaders, Symbol, Sizeof, Alignof, Addr, Loadaddr, Origin, Length, Defined, LogicalOr', LogicalAnd', LessEqual', GreaterEqual', Equal', NotEqual', LessThan', GreaterThan', BitwiseOr', BitwiseXor', BitwiseAnd', LeftShift', RightShift', Add', Subtract', Multiply', Divide', Modulo', LogicalNot', BitwiseNot', Negate', Ternary', Min', Max', Align', SegmentStart', Assert'}
+use denote.Enum.Bare.{tag_one}
+use Rattle.wild_names.specs.contracts.segment_name.SegmentName as segment_name
+use Rattle.wild_expression_tree.specs.contracts.operator.Arithmetic as arithmetic
+use Rattle.wild_expression_tree.specs.contracts.operator.Division as division
+use Rattle.wild_expression_tree.specs.contracts.operator.Comparison as comparison
+use Rattle.wild_expression_tree.specs.contracts.operator.Connective as connective
+use Rattle.wild_expression_tree.specs.contracts.operator.Unary as unary
+use Rattle.wild_expression_tree.specs.contracts.operator.Question as question
+use Rattle.wild_expression_tree.specs.declared.operator.Arithmetic.TheVariants as arithmetics
+use Rattle.wild_expression_tree.specs.declared.operator.Division.TheVariants as divisions
+use Rattle.wild_expression_tree.specs.declared.operator.Comparison.TheVariants as comparisons
+use Rattle.wild_expression_tree.specs.declared.operator.Connective.TheVariants as connectives
+use Rattle.wild_expression_tree.specs.declared.operator.Unary.TheVariants as unaries
+use Rattle.wild_expression_tree.specs.declared.operator.Question.TheVariants as questions
+use Rattle.wild_expression_tree.specs.declared.tree.AssertCommand.{AssertCommand}
+use Rattle.wild_expression_tree.specs.declared.tree.Expression.{Expression, out-Expression}
+use Rattle.wild_expression_tree.specs.declared.tree.Expression.TheOpen.{Expression-F}
+use Rattle.wild_expression_tree.specs.declared.tree.Expression.TheFolds.{map-Expression, fold_out-Expression, fold-AssertCommand, fold_out-AssertCommand}
+use Rattle.wild_expression_tree.specs.declared.tree.Expression.TheViews.{roll-Expression, out-roll-Expression, roll-AssertCommand, roll-out-AssertCommand}
+use Rattle.wild_expression_tree.specs.Shape.{Name, Shape, Number, LocationCounter, SizeofHeaders, Symbol, Named, Ternary, Align, SegmentStart, Assert, shape_of, shape, map_shape}
+use Rattle.wild_expression_tree.specs.Equality.{Outline, absent, node, kind, number, name, same_node, unplaced, outlined, outline, outline_eq, erased, same_equiv, EqualityIsSameness}
+use Rattle.wild_expression_tree.proofs.Folded.{folded, unique}
 
-abbrev segment_named : ℕ → SegmentName
-segment_named n = if n == 0 then Text else if n == 1 then Data else if n == 2 then Bss else Unknown
+-- ---- a shape says all that its node does
 
-segment_back : (s : SegmentName) → segment_named (segment s) ≡ s
-segment_back Text = refl
-segment_back Data = refl
-segment_back Bss = refl
-segment_back Unknown = refl
+abbrev Layer : Type 0
+Layer = Expression-F Expression AssertCommand
 
-abbrev built : Label → Expression → Expression → Expression → Held-Expression-Align-1 → Expression
-built l x y z held =
-    if l.variant == 0 then Number l.number else
-    if l.variant == 1 then LocationCounter else
-    if l.variant == 2 then SizeofHeaders else
-    if l.variant == 3 then Symbol l.name else
-    if l.variant == 4 then Sizeof l.name else
-    if l.variant == 5 then Alignof l.name else
-    if l.variant == 6 then Addr l.name else
-    if l.variant == 7 then Loadaddr l.name else
-    if l.variant == 8 then Origin l.name else
-    if l.variant == 9 then Length l.name else
-    if l.variant == 10 then Defined l.name else
-    if l.variant == 11 then LogicalOr' tt (more_of-Expression x end_of-Expression) tt (more_of-Expression y end_of-Expression) else
-    if l.variant == 12 then LogicalAnd' tt (more_of-Expression x end_of-Expression) tt (more_of-Expression y end_of-Expression) else
-    if l.variant == 13 then LessEqual' tt (more_of-Expression x end_of-Expression) tt (more_of-Expression y end_of-Expression) else
-    if l.variant == 14 then GreaterEqual' tt (more_of-Expression x end_of-Expression) tt (more_of-Expression y end_of-Expression) else
-    if l.variant == 15 then Equal' tt (more_of-Expression x end_of-Expression) tt (more_of-Expression y end_of-Expression) else
-    if l.variant == 16 then NotEqual' tt (more_of-Expression x end_of-Expression) tt (more_of-Expression y end_of-Expression) else
-    if l.variant == 17 then LessThan' tt (more_of-Expression x end_of-Expression) tt (more_of-Expression y end_of-Expression) else
-    if l.variant == 18 then GreaterThan' tt (more_of-Expression x end_of-Expression) tt (more_of-Expression y end_of-Expression) else
-    if l.variant == 19 then BitwiseOr' tt (more_of-Expression x end_of-Expression) tt (more_of-Expression y end_of-Expression) else
-    if l.variant == 20 then BitwiseXor' tt (more_of-Expression x end_of-Expression) tt (more_of-Expression y end_of-Expression) else
-    if l.variant == 21 then BitwiseAnd' tt (more_of-Expression x end_of-Expression) tt (more_of-Expression y end_of-Expression) else
-    if l.variant == 22 then LeftShift' tt (more_of-Expression x end_of-Expression) tt (more_of-Expression y end_of-Expression) else
-    if l.variant == 23 then RightShift' tt (more_of-Expression x end_of-Expression) tt (more_of-Expression y end_of-Expression) else
-    if l.variant == 24 then Add' tt (more_of-Expression x end_of-Expression) tt (more_of-Expression y end_of-Expression) else
-    if l.variant == 25 then Subtract' tt (more_of-Expression x end_of-Expression) tt (more_of-Expression y end_of-Expression) else
-    if l.variant == 26 then Multiply' tt (more_of-Expression x end_of-Expression) tt (more_of-Expression y end_of-Expression) else
-    if l.variant == 27 then Divide' tt (more_of-Expression x end_of-Expression) tt (more_of-Expression y end_of-Expression) else
-    if l.variant == 28 then Modulo' tt (more_of-Expression x end_of-Expression) tt (more_of-Expression y end_of-Expression) else
-    if l.variant == 29 then LogicalNot' tt (more_of-Expression x end_of-Expression) else
-    if l.variant == 30 then BitwiseNot' tt (more_of-Expression x end_of-Expression) else
-    if l.variant == 31 then Negate' tt (more_of-Expression x end_of-Expression) else
-    if l.variant == 32 then Ternary' tt (more_of-Expression x end_of-Expression) tt (more_of-Expression y end_of-Expression) tt (more_of-Expression z end_of-Expression) else
-    if l.variant == 33 then Min' tt (more_of-Expression x end_of-Expression) tt (more_of-Expression y end_of-Expression) else
-    if l.variant == 34 then Max' tt (more_of-Expression x end_of-Expression) tt (more_of-Expression y end_of-Expression) else
-    if l.variant == 35 then Align' tt (more_of-Expression x end_of-Expression) held else
-    if l.variant == 36 then SegmentStart' (segment_named l.number) tt (more_of-Expression x end_of-Expression) else
-    Assert' tt (more_of-Expression x end_of-Expression) l.name 0
+abbrev said : AssertCommand → Expression × (Name × ℕ)
+said c = (c.expression, (c.message, c.at))
 
-abbrev mutual
-  rebuild : Shape → Expression
-  rebuild absent = LocationCounter
-  rebuild (node l x y z) = built l (rebuild x) (rebuild y) (rebuild z) (rebuild_held y)
+abbrev command : Expression → Name → ℕ → AssertCommand
+command x message at = roll-AssertCommand (record { expression = x; message = message; at = at })
 
-  rebuild_held : Shape → Held-Expression-Align-1
-  rebuild_held absent = None'
-  rebuild_held (node l x y z) = Some' tt (more_of-Expression (built l (rebuild x) (rebuild y) (rebuild z) (rebuild_held y)) end_of-Expression)
+abbrev level : Shape Expression → Layer
+level (Number n) = Expression-F.Number n
+level LocationCounter = Expression-F.LocationCounter
+level SizeofHeaders = Expression-F.SizeofHeaders
+level (Symbol s) = Expression-F.Symbol s
+level (Named questions.Sizeof s) = Expression-F.Sizeof s
+level (Named questions.Alignof s) = Expression-F.Alignof s
+level (Named questions.Addr s) = Expression-F.Addr s
+level (Named questions.Loadaddr s) = Expression-F.Loadaddr s
+level (Named questions.Origin s) = Expression-F.Origin s
+level (Named questions.Length s) = Expression-F.Length s
+level (Named questions.Defined s) = Expression-F.Defined s
+level (Shape.Arithmetic arithmetics.Add x y) = Expression-F.Add x y
+level (Shape.Arithmetic arithmetics.Subtract x y) = Expression-F.Subtract x y
+level (Shape.Arithmetic arithmetics.Multiply x y) = Expression-F.Multiply x y
+level (Shape.Arithmetic arithmetics.BitwiseAnd x y) = Expression-F.BitwiseAnd x y
+level (Shape.Arithmetic arithmetics.BitwiseOr x y) = Expression-F.BitwiseOr x y
+level (Shape.Arithmetic arithmetics.BitwiseXor x y) = Expression-F.BitwiseXor x y
+level (Shape.Arithmetic arithmetics.LeftShift x y) = Expression-F.LeftShift x y
+level (Shape.Arithmetic arithmetics.RightShift x y) = Expression-F.RightShift x y
+level (Shape.Arithmetic arithmetics.Min x y) = Expression-F.Min x y
+level (Shape.Arithmetic arithmetics.Max x y) = Expression-F.Max x y
+level (Shape.Division divisions.Divide x y) = Expression-F.Divide x y
+level (Shape.Division divisions.Modulo x y) = Expression-F.Modulo x y
+level (Shape.Comparison comparisons.LessEqual x y) = Expression-F.LessEqual x y
+level (Shape.Comparison comparisons.GreaterEqual x y) = Expression-F.GreaterEqual x y
+level (Shape.Comparison comparisons.Equal x y) = Expression-F.Equal x y
+level (Shape.Comparison comparisons.NotEqual x y) = Expression-F.NotEqual x y
+level (Shape.Comparison comparisons.LessThan x y) = Expression-F.LessThan x y
+level (Shape.Comparison comparisons.GreaterThan x y) = Expression-F.GreaterThan x y
+level (Shape.Connective connectives.LogicalAnd x y) = Expression-F.LogicalAnd x y
+level (Shape.Connective connectives.LogicalOr x y) = Expression-F.LogicalOr x y
+level (Shape.Unary unaries.LogicalNot x) = Expression-F.LogicalNot x
+level (Shape.Unary unaries.BitwiseNot x) = Expression-F.BitwiseNot x
+level (Shape.Unary unaries.Negate x) = Expression-F.Negate x
+level (Ternary x y z) = Expression-F.Ternary x y z
+level (Align x y) = Expression-F.Align x y
+level (SegmentStart s x) = Expression-F.SegmentStart s x
+level (Assert x message at) = Expression-F.Assert (command x message at)
 
-held_back : (s : Shape) → 1 ≤ size s → rebuild_held s ≡ Some' tt (more_of-Expression (rebuild s) end_of-Expression)
-held_back absent h = absurd (omega (arith, h))
-held_back (node l x y z) h = refl
+level_back : (l : Layer) → level (shape_of said l) ≡ l
+level_back (Expression-F.Assert c) = λ i. Expression-F.Assert (roll-out-AssertCommand c i)
+level_back l = refl
 
-mutual
-  rebuilt : (x : Expression) → rebuild (shape x) ≡ erased x
-  rebuilt (Number n) = refl
-  rebuilt LocationCounter = refl
-  rebuilt SizeofHeaders = refl
-  rebuilt (Symbol s) = refl
-  rebuilt (Sizeof s) = refl
-  rebuilt (Alignof s) = refl
-  rebuilt (Addr s) = refl
-  rebuilt (Loadaddr s) = refl
-  rebuilt (Origin s) = refl
-  rebuilt (Length s) = refl
-  rebuilt (Defined s) = refl
-  rebuilt (LogicalOr' p (more_of-Expression x end_of-Expression) q (more_of-Expression y end_of-Expression)) = λ i. LogicalOr' p (more_of-Expression (rebuilt x i) end_of-Expression) q (more_of-Expression (rebuilt y i) end_of-Expression)
-  rebuilt (LogicalAnd' p (more_of-Expression x end_of-Expression) q (more_of-Expression y end_of-Expression)) = λ i. LogicalAnd' p (more_of-Expression (rebuilt x i) end_of-Expression) q (more_of-Expression (rebuilt y i) end_of-Expression)
-  rebuilt (LessEqual' p (more_of-Expression x end_of-Expression) q (more_of-Expression y end_of-Expression)) = λ i. LessEqual' p (more_of-Expression (rebuilt x i) end_of-Expression) q (more_of-Expression (rebuilt y i) end_of-Expression)
-  rebuilt (GreaterEqual' p (more_of-Expression x end_of-Expression) q (more_of-Expression y end_of-Expression)) = λ i. GreaterEqual' p (more_of-Expression (rebuilt x i) end_of-Expression) q (more_of-Expression (rebuilt y i) end_of-Expression)
-  rebuilt (Equal' p (more_of-Expression x end_of-Expression) q (more_of-Expression y end_of-Expression)) = λ i. Equal' p (more_of-Expression (rebuilt x i) end_of-Expression) q (more_of-Expression (rebuilt y i) end_of-Expression)
-  rebuilt (NotEqual' p (more_of-Expression x end_of-Expression) q (more_of-Expression y end_of-Expression)) = λ i. NotEqual' p (more_of-Expression (rebuilt x i) end_of-Expression) q (more_of-Expression (rebuilt y i) end_of-Expression)
-  rebuilt (LessThan' p (more_of-Expression x end_of-Expression) q (more_of-Expression y end_of-Expression)) = λ i. LessThan' p (more_of-Expression (rebuilt x i) end_of-Expression) q (more_of-Expression (rebuilt y i) end_of-Expression)
-  rebuilt (GreaterThan' p (more_of-Expression x end_of-Expression) q (more_of-Expression y end_of-Expression)) = λ i. GreaterThan' p (more_of-Expression (rebuilt x i) end_of-Expression) q (more_of-Expression (rebuilt y i) end_of-Expression)
-  rebuilt (BitwiseOr' p (more_of-Expression x end_of-Expression) q (more_of-Expression y end_of-Expression)) = λ i. BitwiseOr' p (more_of-Expression (rebuilt x i) end_of-Expression) q (more_of-Expression (rebuilt y i) end_of-Expression)
-  rebuilt (BitwiseXor' p (more_of-Expression x end_of-Expression) q (more_of-Expression y end_of-Expression)) = λ i. BitwiseXor' p (more_of-Expression (rebuilt x i) end_of-Expression) q (more_of-Expression (rebuilt y i) end_of-Expression)
-  rebuilt (BitwiseAnd' p (more_of-Expression x end_of-Expression) q (more_of-Expression y end_of-Expression)) = λ i. BitwiseAnd' p (more_of-Expression (rebuilt x i) end_of-Expression) q (more_of-Expression (rebuilt y i) end_of-Expression)
-  rebuilt (LeftShift' p (more_of-Expression x end_of-Expression) q (more_of-Expression y end_of-Expression)) = λ i. LeftShift' p (more_of-Expression (rebuilt x i) end_of-Expression) q (more_of-Expression (rebuilt y i) end_of-Expression)
-  rebuilt (RightShift' p (more_of-Expression x end_of-Expression) q (more_of-Expression y end_of-Expression)) = λ i. RightShift' p (more_of-Expression (rebuilt x i) end_of-Expression) q (more_of-Expression (rebuilt y i) end_of-Expression)
-  rebuilt (Add' p (more_of-Expression x end_of-Expression) q (more_of-Expression y end_of-Expression)) = λ i. Add' p (more_of-Expression (rebuilt x i) end_of-Expression) q (more_of-Expression (rebuilt y i) end_of-Expression)
-  rebuilt (Subtract' p (more_of-Expression x end_of-Expression) q (more_of-Expression y end_of-Expression)) = λ i. Subtract' p (more_of-Expression (rebuilt x i) end_of-Expression) q (more_of-Expression (rebuilt y i) end_of-Expression)
-  rebuilt (Multiply' p (more_of-Expression x end_of-Expression) q (more_of-Expression y end_of-Expression)) = λ i. Multiply' p (more_of-Expression (rebuilt x i) end_of-Expression) q (more_of-Expression (rebuilt y i) end_of-Expression)
-  rebuilt (Divide' p (more_of-Expression x end_of-Expression) q (more_of-Expression y end_of-Expression)) = λ i. Divide' p (more_of-Expression (rebuilt x i) end_of-Expression) q (more_of-Expression (rebuilt y i) end_of-Expression)
-  rebuilt (Modulo' p (more_of-Expression x end_of-Expression) q (more_of-Expression y end_of-Expression)) = λ i. Modulo' p (more_of-Expression (rebuilt x i) end_of-Expression) q (more_of-Expression (rebuilt y i) end_of-Expression)
-  rebuilt (LogicalNot' p (more_of-Expression x end_of-Expression)) = λ i. LogicalNot' p (more_of-Expression (rebuilt x i) end_of-Expression)
-  rebuilt (BitwiseNot' p (more_of-Expression x end_of-Expression)) = λ i. BitwiseNot' p (more_of-Expression (rebuilt x i) end_of-Expression)
-  rebuilt (Negate' p (more_of-Expression x end_of-Expression)) = λ i. Negate' p (more_of-Expression (rebuilt x i) end_of-Expression)
-  rebuilt (Ternary' p (more_of-Expression x end_of-Expression) q (more_of-Expression y end_of-Expression) r (more_of-Expression z end_of-Expression)) = λ i. Ternary' p (more_of-Expression (rebuilt x i) end_of-Expression) q (more_of-Expression (rebuilt y i) end_of-Expression) r (more_of-Expression (rebuilt z i) end_of-Expression)
-  rebuilt (Min' p (more_of-Expression x end_of-Expression) q (more_of-Expression y end_of-Expression)) = λ i. Min' p (more_of-Expression (rebuilt x i) end_of-Expression) q (more_of-Expression (rebuilt y i) end_of-Expression)
-  rebuilt (Max' p (more_of-Expression x end_of-Expression) q (more_of-Expression y end_of-Expression)) = λ i. Max' p (more_of-Expression (rebuilt x i) end_of-Expression) q (more_of-Expression (rebuilt y i) end_of-Expression)
-  rebuilt (Align' p (more_of-Expression x end_of-Expression) held) = λ i. Align' p (more_of-Expression (rebuilt x i) end_of-Expression) (rebuilt_held held i)
-  rebuilt (SegmentStart' s p (more_of-Expression x end_of-Expression)) = λ i. SegmentStart' (segment_back s i) p (more_of-Expression (rebuilt x i) end_of-Expression)
-  rebuilt (Assert' p (more_of-Expression x end_of-Expression) message at) = λ i. Assert' p (more_of-Expression (rebuilt x i) end_of-Expression) message 0
+abbrev rolled : Shape Expression → Expression
+rolled s = roll-Expression (level s)
 
-  rebuilt_held : (h : Held-Expression-Align-1) → rebuild_held (held_shape h) ≡ erased_held h
-  rebuilt_held None' = refl
-  rebuilt_held (Some' p (more_of-Expression x end_of-Expression)) = held_back (shape x) (some x) ∙ (λ i. Some' p (more_of-Expression (rebuilt x i) end_of-Expression))
+-- ---- erased expressions, part by part
 
-mutual
-  kept : (x : Expression) → shape (erased x) ≡ shape x
-  kept (Number n) = refl
-  kept LocationCounter = refl
-  kept SizeofHeaders = refl
-  kept (Symbol s) = refl
-  kept (Sizeof s) = refl
-  kept (Alignof s) = refl
-  kept (Addr s) = refl
-  kept (Loadaddr s) = refl
-  kept (Origin s) = refl
-  kept (Length s) = refl
-  kept (Defined s) = refl
-  kept (LogicalOr' p (more_of-Expression x end_of-Expression) q (more_of-Expression y end_of-Expression)) = λ i. node (plain 11) (kept x i) (kept y i) absent
-  kept (LogicalAnd' p (more_of-Expression x end_of-Expression) q (more_of-Expression y end_of-Expression)) = λ i. node (plain 12) (kept x i) (kept y i) absent
-  kept (LessEqual' p (more_of-Expression x end_of-Expression) q (more_of-Expression y end_of-Expression)) = λ i. node (plain 13) (kept x i) (kept y i) absent
-  kept (GreaterEqual' p (more_of-Expression x end_of-Expression) q (more_of-Expression y end_of-Expression)) = λ i. node (plain 14) (kept x i) (kept y i) absent
-  kept (Equal' p (more_of-Expression x end_of-Expression) q (more_of-Expression y end_of-Expression)) = λ i. node (plain 15) (kept x i) (kept y i) absent
-  kept (NotEqual' p (more_of-Expression x end_of-Expression) q (more_of-Expression y end_of-Expression)) = λ i. node (plain 16) (kept x i) (kept y i) absent
-  kept (LessThan' p (more_of-Expression x end_of-Expression) q (more_of-Expression y end_of-Expression)) = λ i. node (plain 17) (kept x i) (kept y i) absent
-  kept (GreaterThan' p (more_of-Expression x end_of-Expression) q (more_of-Expression y end_of-Expression)) = λ i. node (plain 18) (kept x i) (kept y i) absent
-  kept (BitwiseOr' p (more_of-Expression x end_of-Expression) q (more_of-Expression y end_of-Expression)) = λ i. node (plain 19) (kept x i) (kept y i) absent
-  kept (BitwiseXor' p (more_of-Expression x end_of-Expression) q (more_of-Expression y end_of-Expression)) = λ i. node (plain 20) (kept x i) (kept y i) absent
-  kept (BitwiseAnd' p (more_of-Expression x end_of-Expression) q (more_of-Expression y end_of-Expression)) = λ i. node (plain 21) (kept x i) (kept y i) absent
-  kept (LeftShift' p (more_of-Expression x end_of-Expression) q (more_of-Expression y end_of-Expression)) = λ i. node (plain 22) (kept x i) (kept y i) absent
-  kept (RightShift' p (more_of-Expression x end_of-Expression) q (more_of-Expression y end_of-Expression)) = λ i. node (plain 23) (kept x i) (kept y i) absent
-  kept (Add' p (more_of-Expression x end_of-Expression) q (more_of-Expression y end_of-Expression)) = λ i. node (plain 24) (kept x i) (kept y i) absent
-  kept (Subtract' p (more_of-Expression x end_of-Expression) q (more_of-Expression y end_of-Expression)) = λ i. node (plain 25) (kept x i) (kept y i) absent
-  kept (Multiply' p (more_of-Expression x end_of-Expression) q (more_of-Expression y end_of-Expression)) = λ i. node (plain 26) (kept x i) (kept y i) absent
-  kept (Divide' p (more_of-Expression x end_of-Expression) q (more_of-Expression y end_of-Expression)) = λ i. node (plain 27) (kept x i) (kept y i) absent
-  kept (Modulo' p (more_of-Expression x end_of-Expression) q (more_of-Expression y end_of-Expression)) = λ i. node (plain 28) (kept x i) (kept y i) absent
-  kept (LogicalNot' p (more_of-Expression x end_of-Expression)) = λ i. node (plain 29) (kept x i) absent absent
-  kept (BitwiseNot' p (more_of-Expression x end_of-Expression)) = λ i. node (plain 30) (kept x i) absent absent
-  kept (Negate' p (more_of-Expression x end_of-Expression)) = λ i. node (plain 31) (kept x i) absent absent
-  kept (Ternary' p (more_of-Expression x end_of-Expression) q (more_of-Expression y end_of-Expression) r (more_of-Expression z end_of-Expression)) = λ i. node (plain 32) (kept x i) (kept y i) (kept z i)
-  kept (Min' p (more_of-Expression x end_of-Expression) q (more_of-Expression y end_of-Expression)) = λ i. node (plain 33) (kept x i) (kept y i) absent
-  kept (Max' p (more_of-Expression x end_of-Expression) q (more_of-Expression y end_of-Expression)) = λ i. node (plain 34) (kept x i) (kept y i) absent
-  kept (Align' p (more_of-Expression x end_of-Expression) held) = λ i. node (plain 35) (kept x i) (kept_held held i) absent
-  kept (SegmentStart' s p (more_of-Expression x end_of-Expression)) = λ i. node (record { variant = 36; number = segment s; name = [] }) (kept x i) absent absent
-  kept (Assert' p (more_of-Expression x end_of-Expression) message at) = λ i. node (record { variant = 37; number = 0; name = message }) (kept x i) absent absent
+abbrev erased_command : AssertCommand → AssertCommand
+erased_command = fold-AssertCommand Expression AssertCommand roll-Expression (λ c. roll-AssertCommand (record c { at = 0 }))
 
-  kept_held : (h : Held-Expression-Align-1) → held_shape (erased_held h) ≡ held_shape h
-  kept_held None' = refl
-  kept_held (Some' p (more_of-Expression x end_of-Expression)) = kept x
+erased_said : (c : AssertCommand) → said (erased_command c) ≡ (erased c.expression, (c.message, 0))
+erased_said c = ap said (fold_out-AssertCommand Expression AssertCommand roll-Expression (λ c. roll-AssertCommand (record c { at = 0 })) c)
 
--- ---- shapes that pass the test are one
+erased_level : (l : Layer) → shape_of said (map-Expression Expression AssertCommand Expression AssertCommand erased erased_command l) ≡ unplaced (map_shape erased (shape_of said l))
+erased_level (Expression-F.Assert c) = λ i. Assert (erased_said c i).0 (erased_said c i).1.0 (erased_said c i).1.1
+erased_level (Expression-F.Align x None) = refl
+erased_level (Expression-F.Align x (Some y)) = refl
+erased_level l = refl
 
-label_is : (l m : Label) → label_eq l m ≡ true → l ≡ m
-label_is l m e =
-    let p = and_parts (l.variant == m.variant) _ e in
-    let q = and_parts (l.number == m.number) _ p.1 in
-    let a = eqb-true l.variant m.variant p.0 in
-    let b = eqb-true l.number m.number q.0 in
-    let c = (bytes_eq-Decides l.name m.name).0 q.1 in
-    λ i. record { variant = a i; number = b i; name = c i }
+abbrev erased_out : Expression → Layer
+erased_out e = map-Expression Expression AssertCommand Expression AssertCommand erased erased_command (out-Expression e)
 
-shape_is : (s t : Shape) → shape_eq s t ≡ true → s ≡ t
-unfolding shape_eq
-shape_is absent absent e = refl
-shape_is absent (node m u v w) e = absurd (true≢false (sym e))
-shape_is (node l x y z) absent e = absurd (true≢false (sym e))
-shape_is (node l x y z) (node m u v w) e =
-    let p = and_parts (label_eq l m) _ e in
-    let q = and_parts (shape_eq x u) _ p.1 in
-    let t = and_parts (shape_eq y v) _ q.1 in
-    let a = label_is l m p.0 in
-    let b = shape_is x u q.0 in
-    let c = shape_is y v t.0 in
-    let d = shape_is z w t.1 in
-    λ i. node (a i) (b i) (c i) (d i)
+erased_rolls : (e : Expression) → erased e ≡ roll-Expression (erased_out e)
+erased_rolls = fold_out-Expression Expression AssertCommand roll-Expression (λ c. roll-AssertCommand (record c { at = 0 }))
+
+erased_is : (e : Expression) → erased e ≡ rolled (unplaced (map_shape erased (shape e)))
+erased_is e = erased_rolls e ∙ ap roll-Expression (sym (level_back (erased_out e))) ∙ ap rolled (erased_level (out-Expression e))
+
+erased_shape : (e : Expression) → shape (erased e) ≡ unplaced (map_shape erased (shape e))
+erased_shape e = ap shape (erased_rolls e) ∙ ap (shape_of said) (out-roll-Expression (erased_out e)) ∙ erased_level (out-Expression e)
+
+-- ---- an outline tells the erased expression
+
+abbrev filled : Shape Unit → Expression → Expression → Expression → Shape Expression
+filled (Number n) x y z = Number n
+filled LocationCounter x y z = LocationCounter
+filled SizeofHeaders x y z = SizeofHeaders
+filled (Symbol s) x y z = Symbol s
+filled (Named q s) x y z = Named q s
+filled (Shape.Arithmetic o u v) x y z = Shape.Arithmetic o x y
+filled (Shape.Division o u v) x y z = Shape.Division o x y
+filled (Shape.Comparison o u v) x y z = Shape.Comparison o x y
+filled (Shape.Connective o u v) x y z = Shape.Connective o x y
+filled (Shape.Unary o u) x y z = Shape.Unary o x
+filled (Ternary u v w) x y z = Ternary x y z
+filled (Align u None) x y z = Align x None
+filled (Align u (Some v)) x y z = Align x (Some y)
+filled (SegmentStart s u) x y z = SegmentStart s x
+filled (Assert u message at) x y z = Assert x message at
+
+abbrev rebuild : Outline → Expression
+rebuild absent = rolled LocationCounter
+rebuild (node l x y z) = rolled (filled (unplaced l) (rebuild x) (rebuild y) (rebuild z))
+
+rebuilt_node : (s : Shape Outline) → rebuild (outlined s) ≡ rolled (unplaced (map_shape rebuild s))
+rebuilt_node (Align x None) = refl
+rebuilt_node (Align x (Some y)) = refl
+rebuilt_node s = refl
+
+composed : {X Y Z : Type 0} (f : Y → Z) (g : X → Y) (s : Shape X) → map_shape f (map_shape g s) ≡ map_shape (λ x. f (g x)) s
+composed f g (Align x None) = refl
+composed f g (Align x (Some y)) = refl
+composed f g s = refl
+
+rebuilt : (e : Expression) → rebuild (outline e) ≡ erased e
+rebuilt e =
+    unique (λ x. rebuild (outline x)) (λ s. rolled (unplaced s)) (λ x. ap rebuild (folded outlined x) ∙ rebuilt_node (map_shape outline (shape x)) ∙ ap (λ (s : Shape Expression). rolled (unplaced s)) (composed rebuild outline (shape x))) e
+    ∙ sym (unique erased (λ s. rolled (unplaced s)) erased_is e)
+
+outlined_level : (s : Shape Expression) → outlined (map_shape outline (unplaced (map_shape erased s))) ≡ outlined (map_shape (λ x. outline (erased x)) s)
+outlined_level (Align x None) = refl
+outlined_level (Align x (Some y)) = refl
+outlined_level s = refl
+
+kept : (e : Expression) → outline (erased e) ≡ outline e
+kept = unique (λ x. outline (erased x)) outlined (λ x. folded outlined (erased x) ∙ ap (λ (s : Shape Expression). outlined (map_shape outline s)) (erased_shape x) ∙ outlined_level (shape x))
+
+-- ---- outlines that pass the test are of one expression
+
+same_by : (l m : Shape Unit) → kind l ≡ kind m → number l ≡ number m → name l ≡ name m → unplaced l ≡ unplaced m
+same_by (Number a) (Number b) k n s = λ i. Number (n i)
+same_by LocationCounter LocationCounter k n s = refl
+same_by SizeofHeaders SizeofHeaders k n s = refl
+same_by (Symbol a) (Symbol b) k n s = λ i. Symbol (s i)
+same_by (Named q a) (Named r b) k n s = λ i. Named (tag_one question.the_type tt q r n i) (s i)
+same_by (Shape.Arithmetic o u v) (Shape.Arithmetic p x y) k n s = λ i. Shape.Arithmetic (tag_one arithmetic.the_type tt o p n i) tt tt
+same_by (Shape.Division o u v) (Shape.Division p x y) k n s = λ i. Shape.Division (tag_one division.the_type tt o p n i) tt tt
+same_by (Shape.Comparison o u v) (Shape.Comparison p x y) k n s = λ i. Shape.Comparison (tag_one comparison.the_type tt o p n i) tt tt
+same_by (Shape.Connective o u v) (Shape.Connective p x y) k n s = λ i. Shape.Connective (tag_one connective.the_type tt o p n i) tt tt
+same_by (Shape.Unary o u) (Shape.Unary p x) k n s = λ i. Shape.Unary (tag_one unary.the_type tt o p n i) tt
+same_by (Ternary u v w) (Ternary x y z) k n s = refl
+same_by (Align u None) (Align x None) k n s = refl
+same_by (Align u (Some v)) (Align x (Some y)) k n s = refl
+same_by (SegmentStart a u) (SegmentStart b x) k n s = λ i. SegmentStart (tag_one segment_name.the_type tt a b n i) tt
+same_by (Assert u a i) (Assert x b j) k n s = λ h. Assert tt (s h) 0
+same_by l (Align x None) k n s = absurd (omega (arith, k))
+same_by l (Align x (Some y)) k n s = absurd (omega (arith, k))
+same_by l m k n s = absurd (omega (arith, k))
+
+same_node_is : (l m : Shape Unit) → same_node l m ≡ true → unplaced l ≡ unplaced m
+same_node_is l m e =
+    let p = and_parts (kind l == kind m) _ e in
+    let q = and_parts (number l == number m) _ p.1 in
+    same_by l m (eqb-true (kind l) (kind m) p.0) (eqb-true (number l) (number m) q.0) ((bytes_eq-Decides (name l) (name m)).0 q.1)
+
+one_expression : (s t : Outline) → outline_eq s t ≡ true → rebuild s ≡ rebuild t
+unfolding outline_eq
+one_expression absent absent e = refl
+one_expression (node l x y z) (node m u v w) e =
+    let p = and_parts (same_node l m) _ e in
+    let q = and_parts (outline_eq x u) _ p.1 in
+    let t = and_parts (outline_eq y v) _ q.1 in
+    let a = same_node_is l m p.0 in
+    let b = one_expression x u q.0 in
+    let c = one_expression y v t.0 in
+    let d = one_expression z w t.1 in
+    λ i. rolled (filled (a i) (b i) (c i) (d i))
+one_expression s t e = absurd (true≢false (sym e))
 
 pub sameness : EqualityIsSameness
 sameness x y = (
-  λ h. sym (rebuilt x) ∙ ap rebuild (shape_is (shape x) (shape y) h) ∙ rebuilt y,
-  λ e. ap (λ (s : Shape). shape_eq (shape x) s) (sym (sym (kept x) ∙ ap shape e ∙ kept y)) ∙ same_equiv.refl x,
+  λ h. sym (rebuilt x) ∙ one_expression (outline x) (outline y) h ∙ rebuilt y,
+  λ e. ap (λ (s : Outline). outline_eq (outline x) s) (sym (sym (kept x) ∙ ap outline e ∙ kept y)) ∙ same_equiv.refl x,
 )

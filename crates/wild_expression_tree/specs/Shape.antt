@@ -150,6 +150,10 @@ largest (SegmentStart s x) = x
 largest (Assert x message at) = x
 largest s = 0
 
+-- the size of an optional part, or 0
+abbrev pub size_held : Option Expression → ℕ
+size_held x = unwrap_or (option_map size-Expression x) 0
+
 -- the size of the largest part
 abbrev pub part_size : Shape Expression → ℕ
 part_size s = largest (map_shape size-Expression s)

@@ -1,4 +1,4 @@
-//! Expressions of linker scripts as trees, and when two are equal.
+//! Expressions of linker scripts as trees, the shapes of their nodes, and when two are equal.
 #![tactic(auto)]
 
 mod equality;
