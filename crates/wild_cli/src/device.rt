@@ -18,6 +18,7 @@ pub enum LoadFault {
     Failed,
     /// The file is longer than 2 ^ 24 bytes.
     TooLong,
+    /// Memory ran out.
     NoMemory,
 }
 

@@ -13,11 +13,10 @@ mod words;
 pub use device::{Files, LoadFault, Sink, SinkFault};
 pub use laws::{count_at_zero_never_rose, unfailing_runs_end};
 pub use real::{DirFiles, StreamSink};
-pub use refusal::Refusal;
 pub use running::run;
 pub use shelf::{FailingPut, Shelf, Tray};
 pub use sure::{ShelfFile, SureShelf, SureTray};
-pub use wild_table::{TableFault, read_flags, read_number, read_table};
+pub use wild_table::{TableFault, read_number, read_table};
 pub use words::{Request, WordsFault, read_words};
 
 #[cfg(test)]

@@ -20,6 +20,7 @@ pub enum Refusal {
     Usage,
     /// The file of this name could not be loaded.
     NotLoaded(Name),
+    /// Memory ran out.
     NoMemory,
     /// The record of this number is not of the form.
     BadRecord(usize),

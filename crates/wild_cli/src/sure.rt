@@ -109,6 +109,7 @@ impl Model for SureTray {
 }
 
 impl SureTray {
+    /// Nothing was put yet.
     pub fn new(alloc: Global) -> SureTray
         ensures { result ≡ [] }
     {

@@ -1,5 +1,6 @@
+use crate::refusal::Refusal;
 use crate::{
-    DirFiles, FailingPut, Files, LoadFault, Refusal, Shelf, ShelfFile, Sink, SinkFault, StreamSink,
+    DirFiles, FailingPut, Files, LoadFault, Shelf, ShelfFile, Sink, SinkFault, StreamSink,
     SureShelf, SureTray, Tray, run,
 };
 use std::alloc::Global;

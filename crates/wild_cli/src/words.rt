@@ -14,10 +14,12 @@ pub enum Request {
     Plan { script: Name, table: Name },
 }
 
+/// Why words are no request.
 #[derive(Clone, Copy, Debug, PartialEq, Eq)]
 pub enum WordsFault {
     /// The words are no command.
     Usage,
+    /// Memory ran out.
     NoMemory,
 }
 

@@ -6,10 +6,8 @@ mod number;
 mod records;
 mod table;
 
-pub use flags::read_flags;
 pub use number::read_number;
 pub use table::{TableFault, read_table};
-pub use wild_plan_spec::{InputRow, InputRows, InputTable, SymbolRow, SymbolRows};
 
 #[cfg(test)]
 mod tests;

@@ -4,7 +4,8 @@ ghost use Rattle.std.specs.Prelude.{◌≡◌, ◌≢◌, IfOk, MatchOption, len
 ghost use Rattle.csv.specs.Records.{fields_of};
 ghost use Rattle.wild_table.specs.Forms.{record_of, section_record, symbol_record, no_fields};
 
-use crate::{read_flags, read_number};
+use crate::flags::read_flags;
+use crate::number::read_number;
 use csv::ByteRecord;
 use std::alloc::Global;
 use wild_names::{Name, NoMemory};

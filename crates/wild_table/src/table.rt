@@ -16,6 +16,7 @@ use wild_plan_spec::{InputRows, InputTable, SymbolRows};
 pub enum TableFault {
     /// The first record that is not of a form, counted from 0. An empty line is no record.
     BadRecord { index: usize },
+    /// Memory ran out.
     NoMemory,
 }
 

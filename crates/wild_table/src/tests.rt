@@ -1,9 +1,11 @@
-use crate::{InputTable, TableFault, read_flags, read_number, read_table};
+use crate::flags::read_flags;
+use crate::{TableFault, read_number, read_table};
 use bitflags::Flags;
 use std::alloc::{AllocError, Global};
 use std::str;
 use std::test::Fail;
 use wild_names::{InputFlags, Name};
+use wild_plan_spec::InputTable;
 
 #[test]
 fn numbers(rt: HostRuntime) {
