@@ -1,11 +1,11 @@
 -- the run from here ends where the run from the beginning does
 use Rattle.std.proofs.Common.{length, ◌-◌, ◌≡◌, ◌≤◌}
-use Rattle.wild_reading.specs.Bytes.{quotes_end}
-use Rattle.wild_reading.proofs.lex.quotes_end.Given as goal
+use Rattle.wild_reading.specs.Bytes.{run_end}
+use Rattle.wild_reading.proofs.classes.run_end.Given as goal
 
 abbrev pub invariant-loop-end : goal.invariant-loop-end
 invariant-loop-end l = record {
-  same : quotes_end l.bytes l.fn.at ≡ quotes_end l.bytes l.end;
+  same : run_end l.class l.bytes l.fn.at ≡ run_end l.class l.bytes l.end;
   forward : l.fn.at ≤ l.end;
   within : l.end ≤ length l.bytes;
 }

@@ -1,7 +1,7 @@
 -- the gap from the beginning ends as what is left of it here
 use Rattle.std.proofs.Common.{length, ◌-◌, ◌≤◌, ◌≡◌}
 use Rattle.wild_reading.specs.Lex.{rest_of_gap, gap_end}
-use Rattle.wild_reading.proofs.skipping.past_gap.Given as goal
+use Rattle.wild_reading.proofs.skipping.gap_end.Given as goal
 
 abbrev pub invariant-loop-at : goal.invariant-loop-at
 invariant-loop-at l = record {

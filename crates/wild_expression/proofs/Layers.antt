@@ -11,13 +11,13 @@ use Rattle.wild_expression_words.specs.declared.words.Head.TheVariants as h
 use Rattle.wild_expression_tree.specs.declared.tree.Expression.{Expression}
 use Rattle.wild_expression.specs.declared.measured.Measured.{Measured}
 use Rattle.wild_expression_words.specs.Operators.{operand, is_layer, is_chain}
-use Rattle.wild_expression.specs.Grammar.{lone, behind_of, chain_of, alone, rest_of, layer_of, product_of, sum_of, shift_of, bitwise_and_of, bitwise_xor_of, bitwise_or_of, compared_of, logical_and_of, logical_or_of, whole_of, value_of, inner_value, value, behind, sign_level, step, chain, comparison, ternary, rest, layer}
+use Rattle.wild_expression.specs.Grammar.{leaf_tree, after_head_of, chain_of, alone, rest_of, layer_of, product_of, sum_of, shift_of, bitwise_and_of, bitwise_xor_of, bitwise_or_of, comparison_level_of, logical_and_of, logical_or_of, whole_of, value_of, inner_value, value, after_head, sign_level, step, chain, comparison, ternary, rest, layer}
 
 -- ---- a level's reader by what it is
 
 module _ {s r : Position} {result : Result Measured Stop} where
   pub layer_answers : (level : Level) → is_layer level ≡ true → Answers (layer level) s r result → Answers (value level) s r result
-  unfolding value value_of inner_value layer layer_of rest product_of sum_of shift_of bitwise_and_of bitwise_xor_of bitwise_or_of compared_of logical_and_of logical_or_of whole_of
+  unfolding value value_of inner_value layer layer_of rest product_of sum_of shift_of bitwise_and_of bitwise_xor_of bitwise_or_of comparison_level_of logical_and_of logical_or_of whole_of
   layer_answers l.Ternary e a = a
   layer_answers l.LogicalOr e a = a
   layer_answers l.LogicalAnd e a = a
@@ -37,7 +37,7 @@ module _ {s r : Position} {result : Result Measured Stop} where
   pub sign_answers : {level : Level} → level ≡ l.Sign → Answers sign_level s r result → Answers (value level) s r result
   sign_answers e a = subst (λ (k : Level). Answers (value k) s r result) (sym e) (from_sign a)
 
-  -- what stands behind a first_grammar operand
+  -- what is read after a first operand
 
   pub chain_answers : (level : Level) (x : Measured) → is_chain level ≡ true → Answers (chain level x) s r result → Answers (rest level x) s r result
   unfolding rest rest_of chain chain_of step inner_value
@@ -74,12 +74,12 @@ module _ {s r : Position} {result : Result Measured Stop} where
   pub alone_answers : {level : Level} (x : Measured) → level ≡ l.Sign → Answers (alone x) s r result → Answers (rest level x) s r result
   alone_answers x e a = subst (λ (k : Level). Answers (rest k x) s r result) (sym e) (from_alone x a)
 
-from_whole : (x : Expression) {m : Position} → Answers (behind (h.Whole x)) m m (Ok (lone x))
-unfolding behind behind_of
+from_whole : (x : Expression) {m : Position} → Answers (after_head (h.Whole x)) m m (Ok (leaf_tree x))
+unfolding after_head after_head_of
 from_whole x = answers_ok give_only
 
-pub whole_answers : {begin : Head} {x : Expression} {m : Position} → begin ≡ h.Whole x → Answers (behind begin) m m (Ok (lone x))
-whole_answers {x = x} {m = m} e = subst (λ (k : Head). Answers (behind k) m m (Ok (lone x))) (sym e) (from_whole x)
+pub whole_answers : {begin : Head} {x : Expression} {m : Position} → begin ≡ h.Whole x → Answers (after_head begin) m m (Ok (leaf_tree x))
+whole_answers {x = x} {m = m} e = subst (λ (k : Head). Answers (after_head k) m m (Ok (leaf_tree x))) (sym e) (from_whole x)
 
 -- ---- ranks, for measures
 
