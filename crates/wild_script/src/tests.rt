@@ -4,6 +4,7 @@ use crate::{
     skip_comments_and_whitespace,
 };
 use std::alloc::{AllocError, Global};
+use std::process::Abort;
 use std::test::Fail;
 use wild_names::{Fault, Name};
 
@@ -139,14 +140,15 @@ fn joined(alloc: Global, parts: [&[u8]; 3]) -> Result<Vec<u8>, AllocError> {
 
 // Each text, by its name, has the outline, where it is put between the two others.
 fn expect(
-    rt: HostRuntime,
+    rt: &impl Abort,
+    alloc: Global,
     before: &[u8],
     after: &[u8],
     cases: &[(&str, &[u8], &str)],
 ) -> Result<(), Fail> {
     for (name, text, expected) in cases {
-        let script = joined(rt.alloc(), [before, text, after])?;
-        let found = outline(rt.alloc(), script.as_slice())?;
+        let script = joined(alloc, [before, text, after])?;
+        let found = outline(alloc, script.as_slice())?;
         assert_eq!(rt; found.as_str(), *expected, "{name}");
     }
     Ok(())
@@ -166,7 +168,7 @@ fn scripts(rt: HostRuntime) -> Result<(), Fail> {
         ("a word that is not built", b"GROUP = 5", "syntax 6"),
         ("a name alone", b"a b", "syntax 2"),
     ];
-    expect(rt, b"", b"", &cases)
+    expect(&rt, rt.alloc(), b"", b"", &cases)
 }
 
 #[test]
@@ -189,7 +191,7 @@ fn commands(rt: HostRuntime) -> Result<(), Fail> {
         ("no message", b"ASSERT(1)", "syntax 8"),
         ("a comment in open quotes", b"ASSERT(1, \"/*", "syntax 13"),
     ];
-    expect(rt, b"", b"", &cases)
+    expect(&rt, rt.alloc(), b"", b"", &cases)
 }
 
 #[test]
@@ -206,7 +208,7 @@ fn changes(rt: HostRuntime) -> Result<(), Fail> {
             "=LeftShift(Boxed { inner: LocationCounter }, Boxed { inner: Add(Boxed { inner: Number(2) }, Boxed { inner: Number(3) }) });",
         ),
     ];
-    expect(rt, b"", b"", &cases)
+    expect(&rt, rt.alloc(), b"", b"", &cases)
 }
 
 #[test]
@@ -226,7 +228,7 @@ fn statements(rt: HostRuntime) -> Result<(), Fail> {
         ("a section without a name", b"\"\" : { }", "syntax 12"),
         ("a colon in a token", b".a: { }", "syntax 13"),
     ];
-    expect(rt, b"SECTIONS{", b"}", &cases)
+    expect(&rt, rt.alloc(), b"SECTIONS{", b"}", &cases)
 }
 
 #[test]
@@ -249,7 +251,7 @@ fn matchers(rt: HostRuntime) -> Result<(), Fail> {
         ("form feed", b"*(.a\x0c)", "syntax 18"),
         ("sorted", b"*(SORT(.t*) .u)", "{.a:(^.t* .u );}"),
     ];
-    expect(rt, b"SECTIONS{.a :{", b"}}", &cases)
+    expect(&rt, rt.alloc(), b"SECTIONS{.a :{", b"}}", &cases)
 }
 
 #[test]
@@ -274,7 +276,7 @@ fn sort_words(rt: HostRuntime) -> Result<(), Fail> {
         ("two names", b"*(SORT(.a .b))", "syntax 24"),
         ("an open comment", b"*(SORT(/* open", "unclosed 21"),
     ];
-    expect(rt, b"SECTIONS{.a :{", b"}}", &cases)
+    expect(&rt, rt.alloc(), b"SECTIONS{.a :{", b"}}", &cases)
 }
 
 #[test]
