@@ -24,12 +24,34 @@ fn number(alloc: Global, number: u64) -> Result<Tree, NoMemory> {
     Ok(Boxed::new(alloc, Expression::Number(number))?)
 }
 
-fn name(alloc: Global, bytes: &[u8]) -> Result<Name, NoMemory> {
-    Name::new(alloc, bytes)
+fn symbol(alloc: Global, name: &[u8]) -> Result<Tree, NoMemory> {
+    let name = Name::new(alloc, name)?;
+    Ok(Boxed::new(alloc, Expression::Symbol(name))?)
 }
 
-fn symbol(alloc: Global, bytes: &[u8]) -> Result<Tree, NoMemory> {
-    Ok(Boxed::new(alloc, Expression::Symbol(name(alloc, bytes)?))?)
+fn sizeof(alloc: Global, name: &[u8]) -> Result<Tree, NoMemory> {
+    let name = Name::new(alloc, name)?;
+    Ok(Boxed::new(alloc, Expression::Sizeof(name))?)
+}
+
+fn alignof(alloc: Global, name: &[u8]) -> Result<Tree, NoMemory> {
+    let name = Name::new(alloc, name)?;
+    Ok(Boxed::new(alloc, Expression::Alignof(name))?)
+}
+
+fn addr(alloc: Global, name: &[u8]) -> Result<Tree, NoMemory> {
+    let name = Name::new(alloc, name)?;
+    Ok(Boxed::new(alloc, Expression::Addr(name))?)
+}
+
+fn loadaddr(alloc: Global, name: &[u8]) -> Result<Tree, NoMemory> {
+    let name = Name::new(alloc, name)?;
+    Ok(Boxed::new(alloc, Expression::Loadaddr(name))?)
+}
+
+fn defined(alloc: Global, name: &[u8]) -> Result<Tree, NoMemory> {
+    let name = Name::new(alloc, name)?;
+    Ok(Boxed::new(alloc, Expression::Defined(name))?)
 }
 
 fn negated(alloc: Global, part: Tree) -> Result<Tree, NoMemory> {
@@ -57,24 +79,23 @@ enum Sample {
 }
 
 fn tree(alloc: Global, sample: Sample) -> Result<Tree, NoMemory> {
-    let expression = match sample {
-        Sample::Five => Expression::Symbol(name(alloc, b"five")?),
-        Sample::MinusFive => return negated(alloc, symbol(alloc, b"five")?),
-        Sample::Circle => Expression::Symbol(name(alloc, b"a")?),
-        Sample::Missing => Expression::Symbol(name(alloc, b"none")?),
-        Sample::Row => Expression::Symbol(name(alloc, b"row")?),
-        Sample::Low => Expression::Symbol(name(alloc, b"low")?),
-        Sample::SizeofA => Expression::Sizeof(name(alloc, b".a")?),
-        Sample::SizeofB => Expression::Sizeof(name(alloc, b".b")?),
-        Sample::AlignofA => Expression::Alignof(name(alloc, b".a")?),
-        Sample::AlignofB => Expression::Alignof(name(alloc, b".b")?),
-        Sample::AddrA => Expression::Addr(name(alloc, b".a")?),
-        Sample::AddrB => Expression::Addr(name(alloc, b".b")?),
-        Sample::LoadaddrA => Expression::Loadaddr(name(alloc, b".a")?),
-        Sample::LowDefined => Expression::Defined(name(alloc, b"low")?),
-        Sample::MissingDefined => Expression::Defined(name(alloc, b"none")?),
-    };
-    Ok(Boxed::new(alloc, expression)?)
+    match sample {
+        Sample::Five => symbol(alloc, b"five"),
+        Sample::MinusFive => negated(alloc, symbol(alloc, b"five")?),
+        Sample::Circle => symbol(alloc, b"a"),
+        Sample::Missing => symbol(alloc, b"none"),
+        Sample::Row => symbol(alloc, b"row"),
+        Sample::Low => symbol(alloc, b"low"),
+        Sample::SizeofA => sizeof(alloc, b".a"),
+        Sample::SizeofB => sizeof(alloc, b".b"),
+        Sample::AlignofA => alignof(alloc, b".a"),
+        Sample::AlignofB => alignof(alloc, b".b"),
+        Sample::AddrA => addr(alloc, b".a"),
+        Sample::AddrB => addr(alloc, b".b"),
+        Sample::LoadaddrA => loadaddr(alloc, b".a"),
+        Sample::LowDefined => defined(alloc, b"low"),
+        Sample::MissingDefined => defined(alloc, b"none"),
+    }
 }
 
 // Section 0, `.a`, is 0x1000 to 0x1020 and is loaded at 0x8000. Row 3 stands in it, and row 4 below it.
