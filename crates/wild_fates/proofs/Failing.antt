@@ -16,8 +16,8 @@ failing_append [] ys = refl
 failing_append (c ∷ xs) ys = failing_by (not c.holds) c _ _ _ (failing_append xs ys)
 
 -- where none of the first fails, the others decide
-pub failing_behind : (xs ys : List Check) → failing xs ≡ None → failing (xs ++ ys) ≡ failing ys
-failing_behind xs ys none = failing_append xs ys ∙ rw none refl
+pub failing_after : (xs ys : List Check) → failing xs ≡ None → failing (xs ++ ys) ≡ failing ys
+failing_after xs ys none = failing_append xs ys ∙ rw none refl
 
 -- a failure among the first is that of all
 pub failing_before : (xs ys : List Check) (fault : Fault) → failing xs ≡ Some fault → failing (xs ++ ys) ≡ Some fault
@@ -28,9 +28,9 @@ pub wanted_before : (xs ys : List Check) (fault : Fault) → IsWanted (failing x
 wanted_before xs ys fault (inl h) = inl h
 wanted_before xs ys fault (inr h) = inr (failing_before xs ys fault h)
 
-pub wanted_behind : (xs ys : List Check) (fault : Fault) → failing xs ≡ None → IsWanted (failing ys) fault → IsWanted (failing (xs ++ ys)) fault
-wanted_behind xs ys fault none (inl h) = inl h
-wanted_behind xs ys fault none (inr h) = inr (failing_behind xs ys none ∙ h)
+pub wanted_after : (xs ys : List Check) (fault : Fault) → failing xs ≡ None → IsWanted (failing ys) fault → IsWanted (failing (xs ++ ys)) fault
+wanted_after xs ys fault none (inl h) = inl h
+wanted_after xs ys fault none (inr h) = inr (failing_after xs ys none ∙ h)
 
-pub none_behind : (xs ys : List Check) → failing xs ≡ None → failing ys ≡ None → failing (xs ++ ys) ≡ None
-none_behind xs ys a b = failing_behind xs ys a ∙ b
+pub none_after : (xs ys : List Check) → failing xs ≡ None → failing ys ≡ None → failing (xs ++ ys) ≡ None
+none_after xs ys a b = failing_after xs ys a ∙ b

@@ -1,5 +1,5 @@
 pub mod Names
-pub mod Pointed
+pub mod Targets
 pub mod Shown
 pub mod Failing
 pub mod Numbered

@@ -1,4 +1,4 @@
--- The places of orphan sections, one behind the other.
+-- The places of orphan sections, one after the other.
 use Rattle.std.proofs.Common.{◌≡◌, ◌∙◌, ◌++◌, ◌+◌, ◌-◌, ◌<◌, ℕ, suc, List, refl, sym, ap, arith}
 use Rattle.std.proofs.lemmas.List.{append_assoc}
 use Rattle.wild_plan_spec.specs.Places.{Place}

@@ -12,13 +12,13 @@ use Rattle.wild_plan_spec.specs.declared.row.InputRow.{InputRow}
 use Rattle.wild_plan_spec.specs.Fates.{lacks, firsts, orphans, decision, asked_by, names_asked, fate_by, all_fates}
 use Rattle.wild_plan_spec.specs.Names.{Name}
 use Rattle.wild_plan_spec.specs.Rules.{Rule}
-use Rattle.wild_fates.specs.Collected.{with_decision, with_rows, decisions, fates_by}
+use Rattle.wild_fates.specs.Decisions.{with_decision, with_rows, decisions, fates_by}
 
 -- ---- lists
 
-nothing_behind : {X : Type 0} (xs : List X) → xs ≡ xs ++ []
-nothing_behind [] = refl
-nothing_behind (x ∷ xs) = ap (λ ys. x ∷ ys) (nothing_behind xs)
+nothing_after : {X : Type 0} (xs : List X) → xs ≡ xs ++ []
+nothing_after [] = refl
+nothing_after (x ∷ xs) = ap (λ ys. x ∷ ys) (nothing_after xs)
 
 one_before : {X : Type 0} (xs : List X) (x : X) (ys : List X) → (xs ++ x ∷ []) ++ ys ≡ xs ++ x ∷ ys
 one_before [] x ys = refl
@@ -89,9 +89,9 @@ decision_more ByName names a bs = name_more (list_any (is_named a) names) names 
 decision_more Discard names a bs = refl
 decision_more (Keep q) names a bs = refl
 
--- the names that are there behind all rows
+-- the names that are there after all rows
 pub sections_are : (rules : List Rule) (names : List Name) (rows : List InputRow) → with_rows rules names rows ≡ names ++ orphans names (names_asked rules rows)
-sections_are rules names [] = nothing_behind names
+sections_are rules names [] = nothing_after names
 sections_are rules names (row ∷ rows) = sections_are rules (with_decision names row.«section» (decision rules row)) rows ∙ decision_more (decision rules row) names row.«section» (names_asked rules rows)
 
 pub fates_are : (rules : List Rule) (names : List Name) (rows : List InputRow) → fates_by names rows (decisions rules rows) ≡ all_fates rules names rows

@@ -17,10 +17,10 @@ use Rattle.wild_plan_spec.specs.Fates.{names_of}
 use Rattle.wild_plan_spec.specs.Names.{Name}
 use Rattle.wild_plan_spec.specs.Places.{Place, SetLocation, Within, Outside, Open, Collect, Rows, Close, Idle, next_chunk, script_places}
 use Rattle.wild_plan_spec.specs.Statements.{sections_of}
-use Rattle.wild_fates.specs.Numbered.{rule_list, numbered_patterns, outcome_for, numbered_place, numbered, chunks_at, chunks_in}
+use Rattle.wild_fates.specs.Numbered.{rule_list, numbered_patterns, outcome_for, numbered_place, numbered_rules, chunks_at, chunks_in}
 use Rattle.wild_fates.specs.Passes.{IsWanted, Passes}
 use Rattle.wild_fates.specs.Refused.{bad_name}
-use Rattle.wild_fates.proofs.Failing.{failing_behind, wanted_before, wanted_behind, none_behind}
+use Rattle.wild_fates.proofs.Failing.{failing_after, wanted_before, wanted_after, none_after}
 use Rattle.wild_fates.proofs.Patterns.{makes, refuses}
 
 -- ---- one pattern
@@ -47,7 +47,7 @@ module _ (n : ℕ) (file : Option Name) (p : SectionPattern) (rest ps all : List
   pattern_fails f h = subst (λ (o : Option Fault). IsWanted o f) checks_are (wanted_before (pattern_check n file p) (pattern_checks n file rest) f h)
 
   pub patterns_go_on : failing (pattern_check n file p) ≡ None → failing (pattern_checks n file rest) ≡ failing (pattern_checks n file all)
-  patterns_go_on h = sym (failing_behind (pattern_check n file p) (pattern_checks n file rest) h) ∙ checks_are
+  patterns_go_on h = sym (failing_after (pattern_check n file p) (pattern_checks n file rest) h) ∙ checks_are
 
 pub rules_go_on : (k : Option ℕ) (must_keep : Bool) (file : Option Name) (p : SectionPattern) (rest ps : List SectionPattern) (before next all : List rules.Rule) (rule : rules.Rule) → ps ≡ p ∷ rest
     → rule_list (script_rule p.name file (outcome_for k must_keep p)) ≡ rule ∷ [] → next ≡ before ++ rule ∷ [] → before ++ numbered_patterns k must_keep file ps ≡ all → next ++ numbered_patterns k must_keep file rest ≡ all
@@ -76,7 +76,7 @@ module _ (n k : ℕ) (p : Place) where
   built_fails false h = refl
 
   pub place_holds : failing (matcher_checks n k p) ≡ None → is_place_built p ≡ true → failing (checks_at n k p) ≡ None
-  place_holds h built = none_behind (matcher_checks n k p) of_built h (built_holds (is_place_built p) built)
+  place_holds h built = none_after (matcher_checks n k p) of_built h (built_holds (is_place_built p) built)
 
 more_by : (chunks : List Chunk) → length (chunks ++ []) ≡ length chunks
 more_by [] = refl
@@ -86,7 +86,7 @@ one_by : (chunks : List Chunk) (q : Chunk) → length (chunks ++ q ∷ []) ≡ l
 one_by [] q = refl
 one_by (c ∷ chunks) q = let e = one_by chunks q in omega (arith, e)
 
--- the chunks up to behind a place
+-- the chunks up to the end of a place
 chunks_counted : (chunks : List Chunk) (p : Place) → length (chunks ++ chunks_at p) ≡ next_chunk (length chunks) p
 chunks_counted chunks (Collect None m) = more_by chunks
 chunks_counted chunks (Collect (Some q) m) = one_by chunks q
@@ -110,7 +110,7 @@ module _ (n : ℕ) (chunks next : List Chunk) (p : Place) (rest ps all : List Pl
     places_go_on pushed h =
         ap (λ (cs : List Chunk). failing (place_checks (n + 1) (length cs) rest)) pushed
         ∙ ap (λ (k : ℕ). failing (place_checks (n + 1) k rest)) (chunks_counted chunks p)
-        ∙ sym (failing_behind (checks_at n (length chunks) p) (place_checks (n + 1) (next_chunk (length chunks) p) rest) h)
+        ∙ sym (failing_after (checks_at n (length chunks) p) (place_checks (n + 1) (next_chunk (length chunks) p) rest) h)
         ∙ place_checks_are
 
   pub chunks_go_on : (found : List Chunk) → next ≡ chunks ++ chunks_at p → chunks ++ chunks_in ps ≡ found → next ++ chunks_in rest ≡ found
@@ -120,13 +120,13 @@ module _ (n : ℕ) (chunks next : List Chunk) (p : Place) (rest ps all : List Pl
       ∙ ap (λ (qs : List Place). chunks ++ chunks_in qs) (sym more)
       ∙ same
 
-  pub numbers_go_on : (made pushed found : List rules.Rule) → next ≡ chunks ++ chunks_at p → pushed ≡ made ++ numbered_place (length chunks) p → made ++ numbered (length chunks) ps ≡ found → pushed ++ numbered (length next) rest ≡ found
+  pub numbers_go_on : (made pushed found : List rules.Rule) → next ≡ chunks ++ chunks_at p → pushed ≡ made ++ numbered_place (length chunks) p → made ++ numbered_rules (length chunks) ps ≡ found → pushed ++ numbered_rules (length next) rest ≡ found
   numbers_go_on made pushed found there is same =
-      ap (λ (rs : List rules.Rule). rs ++ numbered (length next) rest) is
-      ∙ ap (λ (cs : List Chunk). (made ++ numbered_place (length chunks) p) ++ numbered (length cs) rest) there
-      ∙ ap (λ (k : ℕ). (made ++ numbered_place (length chunks) p) ++ numbered k rest) (chunks_counted chunks p)
-      ∙ append_assoc made (numbered_place (length chunks) p) (numbered (next_chunk (length chunks) p) rest)
-      ∙ ap (λ (qs : List Place). made ++ numbered (length chunks) qs) (sym more)
+      ap (λ (rs : List rules.Rule). rs ++ numbered_rules (length next) rest) is
+      ∙ ap (λ (cs : List Chunk). (made ++ numbered_place (length chunks) p) ++ numbered_rules (length cs) rest) there
+      ∙ ap (λ (k : ℕ). (made ++ numbered_place (length chunks) p) ++ numbered_rules k rest) (chunks_counted chunks p)
+      ∙ append_assoc made (numbered_place (length chunks) p) (numbered_rules (next_chunk (length chunks) p) rest)
+      ∙ ap (λ (qs : List Place). made ++ numbered_rules (length chunks) qs) (sym more)
       ∙ same
 
 -- ---- a script
@@ -137,7 +137,7 @@ module _ (t : LinkerScript) (ps : List Place) (in_places : ps ≡ script_places 
 
   module _ (held : failing (place_checks 0 0 ps) ≡ None) (xs : List Section) (in_sections : xs ≡ sections_of t) where
     pub names_fail : (f : Fault) → IsWanted (failing (name_checks fault.DuplicateSection [] (names_of xs))) f → IsWanted (failing (script_checks t)) f
-    names_fail f h = wanted_behind (place_checks 0 0 (script_places t)) (name_checks fault.DuplicateSection [] (names_of (sections_of t))) f (rw in_places at held) (rw in_sections at h)
+    names_fail f h = wanted_after (place_checks 0 0 (script_places t)) (name_checks fault.DuplicateSection [] (names_of (sections_of t))) f (rw in_places at held) (rw in_sections at h)
 
     pub script_holds : failing (name_checks fault.DuplicateSection [] (names_of xs)) ≡ None → failing (script_checks t) ≡ None
-    script_holds h = none_behind (place_checks 0 0 (script_places t)) (name_checks fault.DuplicateSection [] (names_of (sections_of t))) (rw in_places at held) (rw in_sections at h)
+    script_holds h = none_after (place_checks 0 0 (script_places t)) (name_checks fault.DuplicateSection [] (names_of (sections_of t))) (rw in_places at held) (rw in_sections at h)

@@ -1,8 +1,8 @@
-pub mod Pointed
+pub mod Targets
 pub mod Shown
 pub mod Passes
 pub mod Numbered
 pub mod Refused
-pub mod Collected
+pub mod Decisions
 pub mod Orphaned
 pub mod Parts

@@ -16,6 +16,7 @@ use Rattle.wild_plan_spec.specs.Rules.{Rule}
 
 -- ---- what a rule decides
 
+-- to be kept in a chunk, or discarded without one
 abbrev pub kept_in : Bool → Option Chunk → Decision
 kept_in sorted None = decides.Discard
 kept_in sorted (Some q) = decides.Keep (record { chunk = q; sorted = sorted })
@@ -25,12 +26,14 @@ abbrev pub outcome_decision : List Chunk → SectionRuleOutcome → Decision
 outcome_decision chunks (sends.Section info) = kept_in info.sorted (slice_get chunks info.section_id)
 outcome_decision chunks outcome = decides.Discard
 
-abbrev pub seen_rule : List Chunk → rules.Rule → Rule
-seen_rule chunks rule = record { names = rule.matcher; files = rule.file; decision = outcome_decision chunks rule.outcome }
+-- a rule as plans see it
+abbrev pub plan_rule : List Chunk → rules.Rule → Rule
+plan_rule chunks rule = record { names = rule.matcher; files = rule.file; decision = outcome_decision chunks rule.outcome }
 
-abbrev pub seen : List Chunk → List rules.Rule → List Rule
-seen chunks [] = []
-seen chunks (r ∷ rs) = seen_rule chunks r ∷ seen chunks rs
+-- rules as plans see them
+abbrev pub plan_rules : List Chunk → List rules.Rule → List Rule
+plan_rules chunks [] = []
+plan_rules chunks (r ∷ rs) = plan_rule chunks r ∷ plan_rules chunks rs
 
 -- ---- the rules that are made
 
@@ -39,34 +42,39 @@ abbrev pub outcome_for : Option ℕ → Bool → SectionPattern → SectionRuleO
 outcome_for None must_keep p = sends.Discard
 outcome_for (Some k) must_keep p = sends.Section (record { section_id = k; must_keep = must_keep; sorted = p.sorted })
 
+-- the rule, or none where there is a fault
 abbrev pub rule_list : Result rules.Rule RuleFault → List rules.Rule
 rule_list (Ok rule) = rule ∷ []
 rule_list (Err f) = []
 
+-- one rule for each pattern, to the chunk of this number
 abbrev pub numbered_patterns : Option ℕ → Bool → Option Name → List SectionPattern → List rules.Rule
 numbered_patterns k must_keep file [] = []
 numbered_patterns k must_keep file (p ∷ ps) = rule_list (script_rule p.name file (outcome_for k must_keep p)) ++ numbered_patterns k must_keep file ps
 
--- the number of a chunk behind k chunks
+-- the number of a chunk after k chunks
 abbrev pub number_for : ℕ → Option Chunk → Option ℕ
 number_for k None = None
 number_for k (Some q) = Some k
 
--- the rules of a place behind k chunks
+-- the rules of a place after k chunks
 abbrev pub numbered_place : ℕ → Place → List rules.Rule
 numbered_place k (Collect q m) = numbered_patterns (number_for k q) m.must_keep m.input_file_pattern m.input_section_name_patterns
 numbered_place k p = []
 
-abbrev pub numbered : ℕ → List Place → List rules.Rule
-numbered k [] = []
-numbered k (p ∷ ps) = numbered_place k p ++ numbered (next_chunk k p) ps
+-- the rules of places, of which the first is after k chunks
+abbrev pub numbered_rules : ℕ → List Place → List rules.Rule
+numbered_rules k [] = []
+numbered_rules k (p ∷ ps) = numbered_place k p ++ numbered_rules (next_chunk k p) ps
 
 -- ---- the chunks that have numbers
 
+-- the chunk of a matcher, if it has one
 abbrev pub chunks_at : Place → List Chunk
 chunks_at (Collect q m) = option_to_list q
 chunks_at p = []
 
+-- the chunks of all matchers
 abbrev pub chunks_in : List Place → List Chunk
 chunks_in [] = []
 chunks_in (p ∷ ps) = chunks_at p ++ chunks_in ps

@@ -2,6 +2,7 @@
 use Rattle.std.specs.Prelude.{ℕ, zero, suc, ◌+◌, List, [], ◌∷◌, ◌++◌, None}
 use Rattle.wild_plan_spec.specs.Places.{Place, Open, Rows, Close}
 
+-- an orphan section, with one chunk
 abbrev pub orphan_place : ℕ → List Place
 orphan_place s = Open s ∷ Rows (record { «section» = s; number = 0 }) ∷ Close s None ∷ []
 

@@ -12,22 +12,22 @@ use Rattle.wild_plan_spec.specs.Orphans.{places_of}
 use Rattle.wild_fates.specs.declared.script_fates.Parts.{Parts}
 use Rattle.wild_fates.specs.declared.script_fates.ScriptFates.{ScriptFates}
 use Rattle.wild_fates.specs.Orphaned.{orphans_from}
-use Rattle.wild_fates.specs.Pointed.{pointed}
-use Rattle.wild_fates.specs.Shown.{shown}
+use Rattle.wild_fates.specs.Targets.{targets}
+use Rattle.wild_fates.specs.Shown.{shown_places}
 
 -- the sections and the places of a script
 pub record IsParts (t : LinkerScript) (parts : Parts) : Type 0 where
-  pub sections : pointed parts.sections ≡ sections_of t
-  pub places : shown parts.places ≡ script_places t
+  pub sections : targets parts.sections ≡ sections_of t
+  pub places : shown_places parts.places ≡ script_places t
 
--- where rows go by these rules, with orphans behind these places and these sections
-pub record IsDecidedBy (places : List Place) (rules : List Rule) (own : List Name) (rows : List InputRow) (decided : ScriptFates) : Type 0 where
-  pub names : decided.names ≡ own ++ orphans own (names_asked rules rows)
-  pub fates : decided.fates ≡ all_fates rules (own ++ orphans own (names_asked rules rows)) rows
-  pub all_places : shown decided.places ≡ places ++ orphans_from (length own) (length (own ++ orphans own (names_asked rules rows)) - length own)
+-- where rows go by these rules, with orphans after these places and these sections
+pub record AreFatesBy (places : List Place) (rules : List Rule) (own : List Name) (rows : List InputRow) (script_fates : ScriptFates) : Type 0 where
+  pub names : script_fates.names ≡ own ++ orphans own (names_asked rules rows)
+  pub fates : script_fates.fates ≡ all_fates rules (own ++ orphans own (names_asked rules rows)) rows
+  pub all_places : shown_places script_fates.places ≡ places ++ orphans_from (length own) (length (own ++ orphans own (names_asked rules rows)) - length own)
 
 -- where the rows of a table go
-pub record IsDecided (t : LinkerScript) (inputs : InputTable) (decided : ScriptFates) : Type 0 where
-  pub names : decided.names ≡ section_names t inputs
-  pub fates : decided.fates ≡ fates_of t inputs
-  pub places : shown decided.places ≡ places_of t inputs
+pub record AreFates (t : LinkerScript) (inputs : InputTable) (script_fates : ScriptFates) : Type 0 where
+  pub names : script_fates.names ≡ section_names t inputs
+  pub fates : script_fates.fates ≡ fates_of t inputs
+  pub places : shown_places script_fates.places ≡ places_of t inputs

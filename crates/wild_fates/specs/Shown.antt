@@ -9,24 +9,29 @@ use Rattle.wild_fates.specs.declared.places.Task.TheVariants.{Assign, Provide, L
 use Rattle.wild_fates.specs.declared.places.Place.{Place}
 use Rattle.wild_fates.specs.declared.places.Place.TheVariants.{SetLocation, Within, Outside, Open, Collect, Rows, Close, Idle}
 
+-- a statement, without that it is borrowed
 abbrev pub shown_statement : Statement → statements.Statement
 shown_statement (Inner c) = statements.Inner c.now
 shown_statement (Outer c) = statements.Outer c.now
 
+-- the same of each
 abbrev pub shown_statements : List Statement → List statements.Statement
 shown_statements [] = []
 shown_statements (s ∷ ss) = shown_statement s ∷ shown_statements ss
 
+-- a task, without that it is borrowed
 abbrev pub bare_task : Task → spec.Task
 bare_task (Assign name e) = spec.Assign name.now e.now
 bare_task (Provide d) = spec.Provide d.now
 bare_task (Locate e) = spec.Locate e.now
 bare_task (Check c) = spec.Check c.now
 
+-- the same of a task, if there is one
 abbrev pub shown_task : Option Task → Option spec.Task
 shown_task None = None
 shown_task (Some task) = Some (bare_task task)
 
+-- a place, without that it is borrowed
 abbrev pub shown_place : Place → spec.Place
 shown_place (SetLocation e) = spec.SetLocation e.now
 shown_place (Within task) = spec.Within (bare_task task)
@@ -37,6 +42,7 @@ shown_place (Rows q) = spec.Rows q
 shown_place (Close s rest) = spec.Close s rest
 shown_place Idle = spec.Idle
 
-abbrev pub shown : List Place → List spec.Place
-shown [] = []
-shown (p ∷ ps) = shown_place p ∷ shown ps
+-- the same of each
+abbrev pub shown_places : List Place → List spec.Place
+shown_places [] = []
+shown_places (p ∷ ps) = shown_place p ∷ shown_places ps

@@ -2,7 +2,7 @@
 
 ghost use Rattle.std.specs.Prelude.{◌≡◌, ◌++◌, IfOk, length};
 ghost use Rattle.wild_plan_spec.specs.Fates.{decision, fate_by, first_chunk, orphans, names_asked, all_fates};
-ghost use Rattle.wild_fates.specs.Collected.{with_decision, with_rows, decisions, fates_by};
+ghost use Rattle.wild_fates.specs.Decisions.{with_decision, with_rows, decisions, fates_by};
 
 use crate::rules::Rules;
 use crate::section_names::SectionNames;
@@ -42,17 +42,17 @@ fn with_decision<'a>(
 
 /// The names of all sections, and what is decided of each row without them.
 #[derive(Drop)]
-pub struct Collected<'a> {
+pub struct RowDecisions<'a> {
     pub sections: SectionNames<'a>,
     pub decisions: Items<Decision>,
 }
 
-fn collect<'a>(
+fn decide_rows<'a>(
     alloc: Global,
     own: SectionNames<'a>,
     rules: &Rules,
     rows: &'a [InputRow],
-) -> Result<Collected<'a>, NoMemory>
+) -> Result<RowDecisions<'a>, NoMemory>
     ensures sections { IfOk result (λ c. c.sections ≡ with_rows rules.now own.entry rows.now) }
     ensures decisions { IfOk result (λ c. c.decisions ≡ decisions rules.now rows.now) }
 {
@@ -63,7 +63,7 @@ fn collect<'a>(
         sections = with_decision(alloc, sections, &row.section, decision)?;
         all.push(decision)?;
     }
-    Ok(Collected {
+    Ok(RowDecisions {
         sections,
         decisions: all,
     })
@@ -112,13 +112,13 @@ fn fates_by(
 /// Where each row goes.
 #[derive(Drop)]
 pub struct Fates<'a> {
-    /// The names of the sections: those of the script, and behind them the orphans.
+    /// The names of the sections: those of the script, and after them the orphans.
     pub sections: SectionNames<'a>,
     /// Where each row goes, or None where it is discarded.
     pub fates: Items<Option<Kept>>,
 }
 
-/// The fates of rows among these sections of a script and orphans behind them. Fails where memory runs out.
+/// The fates of rows among these sections of a script and orphans after them. Fails where memory runs out.
 #[tactic(auto, using(crate::proofs::Orphans::sections_are, crate::proofs::Orphans::fates_are, crate::proofs::Orphans::decisions_length))]
 pub fn find_fates<'a>(
     alloc: Global,
@@ -129,10 +129,10 @@ pub fn find_fates<'a>(
     ensures sections { IfOk result (λ f. f.sections ≡ own.entry ++ orphans own.entry (names_asked rules.now rows.now)) }
     ensures fates { IfOk result (λ f. f.fates ≡ all_fates rules.now (own.entry ++ orphans own.entry (names_asked rules.now rows.now)) rows.now) }
 {
-    let Collected {
+    let RowDecisions {
         sections,
         decisions,
-    } = collect(alloc, own, rules, rows)?;
+    } = decide_rows(alloc, own, rules, rows)?;
     let fates = fates_by(alloc, &sections, rows, decisions.as_slice())?;
     Ok(Fates { sections, fates })
 }

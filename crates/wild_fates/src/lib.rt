@@ -1,4 +1,4 @@
-//! Where each row of a table goes: the places of a script, its rules and its sections, with orphans behind them.
+//! Where each row of a table goes: the places of a script, its rules and its sections, with orphans after them.
 #![tactic(auto)]
 
 mod built;

@@ -4,7 +4,7 @@ ghost use Rattle.std.specs.Prelude.{◌≡◌, ◌<◌, ◌+◌, ◌-◌, ◌^�
 ghost use Rattle.wild_plan_spec.specs.Places.{task_of, contents_places, rest_chunk, section_places, discarding_places, discard_places, inner_places, outer_places, statement_places, next_section, all_places};
 ghost use Rattle.wild_plan_spec.specs.Statements.{is_discard};
 ghost use Rattle.wild_fates.specs.Orphaned.{orphan_place, orphans_from};
-ghost use Rattle.wild_fates.specs.Shown.{shown, shown_place, shown_task, shown_statement, shown_statements};
+ghost use Rattle.wild_fates.specs.Shown.{shown_places, shown_place, shown_task, shown_statement, shown_statements};
 
 use crate::statements::{Statement, is_discard};
 use sqlite_items::Items;
@@ -64,7 +64,7 @@ impl<'a> Place<'a> {
 
 #[tactic(auto, using(crate::proofs::Shown::shown_append))]
 fn push<'a>(places: &mut Items<Place<'a>>, place: Place<'a>) -> Result<(), NoMemory>
-    ensures { OnOk result (shown places.new ≡ shown places.old ++ shown_place place.entry ∷ []) }
+    ensures { OnOk result (shown_places places.new ≡ shown_places places.old ++ shown_place place.entry ∷ []) }
 {
     places.push(place)?;
     Ok(())
@@ -75,7 +75,7 @@ fn push_contents<'a>(
     section: usize,
     commands: &'a [ContentsCommand],
 ) -> Result<(), NoMemory>
-    ensures { OnOk result (shown places.new ≡ shown places.old ++ contents_places section 0 commands.now) }
+    ensures { OnOk result (shown_places places.new ≡ shown_places places.old ++ contents_places section 0 commands.now) }
 {
     let mut number = 0;
     for command in commands {
@@ -105,7 +105,7 @@ fn push_section<'a>(
     number: usize,
     section: &'a Section,
 ) -> Result<(), NoMemory>
-    ensures { OnOk result (shown places.new ≡ shown places.old ++ section_places number section.now) }
+    ensures { OnOk result (shown_places places.new ≡ shown_places places.old ++ section_places number section.now) }
 {
     push(places, Place::Open(number))?;
     let commands = section.commands.as_slice();
@@ -118,7 +118,7 @@ fn push_discarding<'a>(
     places: &mut Items<Place<'a>>,
     commands: &'a [ContentsCommand],
 ) -> Result<(), NoMemory>
-    ensures { OnOk result (shown places.new ≡ shown places.old ++ discarding_places commands.now) }
+    ensures { OnOk result (shown_places places.new ≡ shown_places places.old ++ discarding_places commands.now) }
 {
     for command in commands {
         match command {
@@ -129,7 +129,7 @@ fn push_discarding<'a>(
 }
 
 fn push_discard<'a>(places: &mut Items<Place<'a>>, section: &'a Section) -> Result<(), NoMemory>
-    ensures { OnOk result (shown places.new ≡ shown places.old ++ discard_places section.now) }
+    ensures { OnOk result (shown_places places.new ≡ shown_places places.old ++ discard_places section.now) }
 {
     push(places, Place::Idle)?;
     push_discarding(places, section.commands.as_slice())?;
@@ -143,7 +143,7 @@ fn push_any_section<'a>(
     number: usize,
     section: &'a Section,
 ) -> Result<(), NoMemory>
-    ensures { OnOk result (shown places.new ≡ shown places.old ++ (if is_discard section.now then discard_places section.now else section_places number section.now)) }
+    ensures { OnOk result (shown_places places.new ≡ shown_places places.old ++ (if is_discard section.now then discard_places section.now else section_places number section.now)) }
 {
     if is_discard(section) {
         push_discard(places, section)
@@ -157,7 +157,7 @@ fn push_inner<'a>(
     number: usize,
     command: &'a SectionCommand,
 ) -> Result<(), NoMemory>
-    ensures { OnOk result (shown places.new ≡ shown places.old ++ inner_places number command.now) }
+    ensures { OnOk result (shown_places places.new ≡ shown_places places.old ++ inner_places number command.now) }
 {
     match command {
         SectionCommand::Section(section) => push_any_section(places, number, section.get()),
@@ -176,7 +176,7 @@ fn push_inner<'a>(
 }
 
 fn push_outer<'a>(places: &mut Items<Place<'a>>, command: &'a Command) -> Result<(), NoMemory>
-    ensures { OnOk result (shown places.new ≡ shown places.old ++ outer_places command.now) }
+    ensures { OnOk result (shown_places places.new ≡ shown_places places.old ++ outer_places command.now) }
 {
     match command {
         Command::SymbolDefinition { name, value } => {
@@ -196,7 +196,7 @@ fn push_statement<'a>(
     number: usize,
     statement: &Statement<'a>,
 ) -> Result<(), NoMemory>
-    ensures { OnOk result (shown places.new ≡ shown places.old ++ statement_places number (shown_statement statement.now)) }
+    ensures { OnOk result (shown_places places.new ≡ shown_places places.old ++ statement_places number (shown_statement statement.now)) }
 {
     match *statement {
         Statement::Inner(command) => push_inner(places, number, command),
@@ -204,7 +204,7 @@ fn push_statement<'a>(
     }
 }
 
-// The number of the next section behind a statement.
+// The number of the next section after a statement.
 fn next_section(number: usize, statement: &Statement<'_>) -> usize
     requires { number + 1 < 2 ^ 64 }
     ensures { result ≡ next_section number (shown_statement statement.now) }
@@ -222,7 +222,7 @@ pub fn find_places<'a>(
     alloc: Global,
     statements: &[Statement<'a>],
 ) -> Result<Items<Place<'a>>, NoMemory>
-    ensures { IfOk result (λ places. shown places ≡ all_places 0 (shown_statements statements.now)) }
+    ensures { IfOk result (λ places. shown_places places ≡ all_places 0 (shown_statements statements.now)) }
 {
     let mut places = Items::new(alloc);
     let mut number = 0;
@@ -235,7 +235,7 @@ pub fn find_places<'a>(
 
 // A section with one chunk.
 fn push_orphan(places: &mut Items<Place<'_>>, section: usize) -> Result<(), NoMemory>
-    ensures { OnOk result (shown places.new ≡ shown places.old ++ orphan_place section) }
+    ensures { OnOk result (shown_places places.new ≡ shown_places places.old ++ orphan_place section) }
 {
     push(places, Place::Open(section))?;
     push(places, Place::Rows(Chunk { section, number: 0 }))?;
@@ -243,13 +243,13 @@ fn push_orphan(places: &mut Items<Place<'_>>, section: usize) -> Result<(), NoMe
     Ok(())
 }
 
-/// Puts orphan sections with the numbers from `first` up to `count` behind the others. Fails where memory runs out.
+/// Puts orphan sections with the numbers from `first` up to `count` after the others. Fails where memory runs out.
 pub fn push_orphans(
     places: &mut Items<Place<'_>>,
     first: usize,
     count: usize,
 ) -> Result<(), NoMemory>
-    ensures { OnOk result (shown places.new ≡ shown places.old ++ orphans_from first (count - first)) }
+    ensures { OnOk result (shown_places places.new ≡ shown_places places.old ++ orphans_from first (count - first)) }
 {
     for section in first..count {
         push_orphan(places, section)?;

@@ -8,10 +8,10 @@ ghost use Rattle.wild_rules.specs.Making.{script_rule};
 ghost use Rattle.wild_plan_spec.specs.Checks.{is_task_built, is_place_built, chunk_checks, pattern_check, pattern_checks, matcher_checks, checks_at, place_checks, failing};
 ghost use Rattle.wild_plan_spec.specs.Fates.{name_decision};
 ghost use Rattle.wild_plan_spec.specs.Rules.{rules_in};
-ghost use Rattle.wild_fates.specs.Numbered.{outcome_decision, outcome_for, rule_list, numbered_patterns, numbered_place, number_for, chunks_at, chunks_in, numbered};
+ghost use Rattle.wild_fates.specs.Numbered.{outcome_decision, outcome_for, rule_list, numbered_patterns, numbered_place, number_for, chunks_at, chunks_in, numbered_rules};
 ghost use Rattle.wild_fates.specs.Refused.{bad_name};
 ghost use Rattle.wild_fates.specs.Passes.{Passes};
-ghost use Rattle.wild_fates.specs.Shown.{shown_task, shown_place, shown};
+ghost use Rattle.wild_fates.specs.Shown.{shown_task, shown_place, shown_places};
 
 use crate::built::is_built;
 use crate::places::{Place, Task};
@@ -37,11 +37,11 @@ pub struct Rules {
 impl Model for Rules {
     ghost use Rattle.std.specs.Prelude.{List};
     ghost use Rattle.wild_plan_spec.specs.Rules.{Rule};
-    ghost use Rattle.wild_fates.specs.Numbered.{seen};
+    ghost use Rattle.wild_fates.specs.Numbered.{plan_rules};
 
     ghost Value = { List Rule };
 
-    ghost view = { λ rules. seen rules.chunks rules.rules };
+    ghost view = { λ rules. plan_rules rules.chunks rules.rules };
 }
 
 // What a rule with this outcome decides, where the ids of rules are the numbers of these chunks.
@@ -157,7 +157,7 @@ fn pattern_rule(
     }
 }
 
-// The rules of a matcher behind the others.
+// The rules of a matcher after the others.
 fn push_patterns(
     alloc: Global,
     rules: &mut Items<SectionRule>,
@@ -197,7 +197,7 @@ fn is_place_built(place: &Place<'_>) -> bool
     }
 }
 
-// The number of a chunk, which it gets behind the others, or none for none.
+// The number of a chunk, which it gets after the others, or none for none.
 fn number_chunk(
     chunks: &mut Items<Chunk>,
     chunk: Option<Chunk>,
@@ -221,13 +221,13 @@ fn number_chunk(
 
 /// The rules of the first places, and the chunks that have numbers.
 #[derive(Drop)]
-struct Reading {
+struct NumberedRules {
     rules: Items<SectionRule>,
     chunks: Items<Chunk>,
 }
 
-impl Reading {
-    fn read_matcher(
+impl NumberedRules {
+    fn push_matcher(
         &mut self,
         alloc: Global,
         statement: usize,
@@ -246,12 +246,17 @@ impl Reading {
         }
     }
 
-    fn read(&mut self, alloc: Global, statement: usize, place: &Place<'_>) -> Result<(), Fault>
+    fn push_place(
+        &mut self,
+        alloc: Global,
+        statement: usize,
+        place: &Place<'_>,
+    ) -> Result<(), Fault>
         ensures rules { OnOk result (self.new.rules ≡ self.old.rules ++ numbered_place (length self.old.chunks) (shown_place place.now)) }
         ensures chunks { OnOk result (self.new.chunks ≡ self.old.chunks ++ chunks_at (shown_place place.now)) }
         ensures passes { Passes (failing (checks_at statement (length self.old.chunks) (shown_place place.now))) result }
     {
-        self.read_matcher(alloc, statement, place)?;
+        self.push_matcher(alloc, statement, place)?;
         if is_place_built(place) {
             Ok(())
         } else {
@@ -260,29 +265,29 @@ impl Reading {
     }
 }
 
-fn read_all(alloc: Global, places: &[Place<'_>]) -> Result<Reading, Fault>
-    ensures rules { IfOk result (λ reading. reading.rules ≡ numbered 0 (shown places.now)) }
-    ensures chunks { IfOk result (λ reading. reading.chunks ≡ chunks_in (shown places.now)) }
-    ensures passes { Passes (failing (place_checks 0 0 (shown places.now))) result }
+fn number_rules(alloc: Global, places: &[Place<'_>]) -> Result<NumberedRules, Fault>
+    ensures rules { IfOk result (λ numbered. numbered.rules ≡ numbered_rules 0 (shown_places places.now)) }
+    ensures chunks { IfOk result (λ numbered. numbered.chunks ≡ chunks_in (shown_places places.now)) }
+    ensures passes { Passes (failing (place_checks 0 0 (shown_places places.now))) result }
 {
-    let mut reading = Reading {
+    let mut numbered = NumberedRules {
         rules: Items::new(alloc),
         chunks: Items::new(alloc),
     };
     for (statement, place) in places.iter().enumerate() {
-        reading.read(alloc, statement, place)?;
+        numbered.push_place(alloc, statement, place)?;
     }
-    Ok(reading)
+    Ok(numbered)
 }
 
 /// The rules of these places, in their order. The fault is the first of a place: a pattern that has no reading, a chunk
 /// too many, or an expression that is not built.
 #[tactic(auto, using(crate::proofs::Numbered::rules_are))]
 pub fn find_rules(alloc: Global, places: &[Place<'_>]) -> Result<Rules, Fault>
-    ensures rules { IfOk result (λ rules. rules ≡ rules_in (shown places.now)) }
-    ensures passes { Passes (failing (place_checks 0 0 (shown places.now))) result }
+    ensures rules { IfOk result (λ rules. rules ≡ rules_in (shown_places places.now)) }
+    ensures passes { Passes (failing (place_checks 0 0 (shown_places places.now))) result }
 {
-    let Reading { rules, chunks } = read_all(alloc, places)?;
+    let NumberedRules { rules, chunks } = number_rules(alloc, places)?;
     let rules = SectionRules::from_rules(alloc, rules.as_slice())?;
     Ok(Rules { rules, chunks })
 }

@@ -5,9 +5,9 @@ ghost use Rattle.wild_names.specs.declared.fault.Fault.TheVariants.{DuplicateSec
 ghost use Rattle.wild_plan_spec.specs.Checks.{name_checks, script_checks, failing};
 ghost use Rattle.wild_plan_spec.specs.Fates.{names_of};
 ghost use Rattle.wild_fates.specs.Passes.{Passes, repeated};
-ghost use Rattle.wild_fates.specs.Parts.{IsParts, IsDecidedBy, IsDecided};
-ghost use Rattle.wild_fates.specs.Pointed.{pointed};
-ghost use Rattle.wild_fates.specs.Shown.{shown};
+ghost use Rattle.wild_fates.specs.Parts.{IsParts, AreFatesBy, AreFates};
+ghost use Rattle.wild_fates.specs.Targets.{targets};
+ghost use Rattle.wild_fates.specs.Shown.{shown_places};
 
 use crate::fates::{Fates, find_fates};
 use crate::places::{Place, find_places, push_orphans};
@@ -32,7 +32,7 @@ pub struct Parts<'a> {
 pub struct ScriptFates<'a> {
     /// The names of the sections, orphans last.
     pub names: SectionNames<'a>,
-    /// The places of the script, and behind them those of the orphans.
+    /// The places of the script, and after them those of the orphans.
     pub places: Items<Place<'a>>,
     /// Where each row goes, or None where it is discarded.
     pub fates: Items<Option<Kept>>,
@@ -67,8 +67,8 @@ fn push_section<'a>(
 // The names of the sections, of which no two are the same. The fault is that of the first with the name of an earlier
 // one.
 fn number_sections<'a>(alloc: Global, sections: &[&'a Section]) -> Result<SectionNames<'a>, Fault>
-    ensures names { IfOk result (λ names. names ≡ names_of (pointed sections.now)) }
-    ensures passes { Passes (failing (name_checks DuplicateSection [] (names_of (pointed sections.now)))) result }
+    ensures names { IfOk result (λ names. names ≡ names_of (targets sections.now)) }
+    ensures passes { Passes (failing (name_checks DuplicateSection [] (names_of (targets sections.now)))) result }
 {
     let mut names = SectionNames::new(alloc);
     for section in sections {
@@ -85,7 +85,7 @@ fn decide_by<'a>(
     own: SectionNames<'a>,
     rows: &'a [InputRow],
 ) -> Result<ScriptFates<'a>, NoMemory>
-    ensures { IfOk result (IsDecidedBy (shown places.entry) rules.now own.entry rows.now) }
+    ensures { IfOk result (AreFatesBy (shown_places places.entry) rules.now own.entry rows.now) }
 {
     let mut places = places;
     let first = own.len();
@@ -110,12 +110,12 @@ pub fn decide_fates<'a>(
     script: &'a LinkerScript,
     inputs: &'a InputTable,
 ) -> Result<ScriptFates<'a>, Fault>
-    ensures decided { IfOk result (IsDecided script.now inputs.now) }
+    ensures fates { IfOk result (AreFates script.now inputs.now) }
     ensures passes { Passes (failing (script_checks script.now)) result }
 {
     let Parts { sections, places } = find_parts(alloc, script)?;
     let rules = find_rules(alloc, places.as_slice())?;
     let own = number_sections(alloc, sections.as_slice())?;
-    let decided = decide_by(alloc, places, &rules, own, inputs.rows.as_slice())?;
-    Ok(decided)
+    let fates = decide_by(alloc, places, &rules, own, inputs.rows.as_slice())?;
+    Ok(fates)
 }

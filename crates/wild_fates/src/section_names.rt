@@ -2,7 +2,7 @@
 
 ghost use Rattle.std.specs.Prelude.{◌≡◌, [], ◌∷◌, ◌++◌, IfOk, length};
 ghost use Rattle.wild_numbering.specs.Numbering.{number_of};
-ghost use Rattle.wild_fates.specs.Pointed.{pointed};
+ghost use Rattle.wild_fates.specs.Targets.{targets};
 
 use sqlite_items::Items;
 use std::alloc::Global;
@@ -19,13 +19,13 @@ pub struct SectionNames<'a> {
 
 impl<'a> Model for SectionNames<'a> {
     ghost use Rattle.std.specs.Prelude.{List, ℕ, ◌≡◌};
-    ghost use Rattle.wild_fates.specs.Pointed.{pointed};
+    ghost use Rattle.wild_fates.specs.Targets.{targets};
 
     ghost Value = { List (List ℕ) };
 
     ghost view = { λ n. n.numbers };
 
-    ghost invariant = { λ n. pointed n.names ≡ n.numbers };
+    ghost invariant = { λ n. targets n.names ≡ n.numbers };
 }
 
 impl<'a> SectionNames<'a> {
@@ -39,8 +39,8 @@ impl<'a> SectionNames<'a> {
         }
     }
 
-    /// The same with a section behind the others. Fails where memory runs out.
-    #[tactic(auto, using(crate::proofs::Pointed::pointed_append))]
+    /// The same with a section after the others. Fails where memory runs out.
+    #[tactic(auto, using(crate::proofs::Targets::targets_append))]
     pub fn with(self, alloc: Global, name: &'a Name) -> Result<SectionNames<'a>, NoMemory>
         ensures { IfOk result (λ names. names ≡ self.entry ++ name.now ∷ []) }
     {
@@ -69,7 +69,7 @@ impl<'a> SectionNames<'a> {
 
     /// The names in order.
     pub fn as_slice(&self) -> &[&'a Name]
-        ensures { pointed result.now ≡ self.now }
+        ensures { targets result.now ≡ self.now }
     {
         self.names.as_slice()
     }

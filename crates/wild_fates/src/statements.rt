@@ -2,7 +2,7 @@
 
 ghost use Rattle.std.specs.Prelude.{◌≡◌, [], ◌∷◌, ◌++◌, OnOk, IfOk};
 ghost use Rattle.wild_plan_spec.specs.Statements.{is_discard, inner_statements, command_statements, statements_of, sections_in, statement_sections};
-ghost use Rattle.wild_fates.specs.Pointed.{pointed};
+ghost use Rattle.wild_fates.specs.Targets.{targets};
 ghost use Rattle.wild_fates.specs.Shown.{shown_statement, shown_statements};
 
 use sqlite_items::Items;
@@ -73,13 +73,13 @@ pub fn is_discard(section: &Section) -> bool
     section.output_section_name.bytes() == b"/DISCARD/".as_slice()
 }
 
-// Puts the section that a statement is behind the others, if it is one.
-#[tactic(auto, using(crate::proofs::Pointed::pointed_append))]
+// Puts the section that a statement is after the others, if it is one.
+#[tactic(auto, using(crate::proofs::Targets::targets_append))]
 fn push_section<'a>(
     sections: &mut Items<&'a Section>,
     statement: &Statement<'a>,
 ) -> Result<(), NoMemory>
-    ensures { OnOk result (pointed sections.new ≡ pointed sections.old ++ sections_in (shown_statement statement.now)) }
+    ensures { OnOk result (targets sections.new ≡ targets sections.old ++ sections_in (shown_statement statement.now)) }
 {
     match *statement {
         Statement::Inner(SectionCommand::Section(section)) if !is_discard(section.get()) => {
@@ -94,7 +94,7 @@ pub fn find_sections<'a>(
     alloc: Global,
     statements: &[Statement<'a>],
 ) -> Result<Items<&'a Section>, NoMemory>
-    ensures { IfOk result (λ sections. pointed sections ≡ statement_sections (shown_statements statements.now)) }
+    ensures { IfOk result (λ sections. targets sections ≡ statement_sections (shown_statements statements.now)) }
 {
     let mut sections = Items::new(alloc);
     for statement in statements {

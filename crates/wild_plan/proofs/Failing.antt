@@ -9,7 +9,7 @@ use Rattle.wild_plan_spec.specs.Orphans.{places_of}
 use Rattle.wild_plan_spec.specs.Definitions.{entry_names, firm_entries}
 use Rattle.wild_plan_spec.specs.Checks.{Check, row_checks, symbol_checks, script_checks, name_checks, support_checks, checks, failing}
 use Rattle.wild_fates.specs.Passes.{IsWanted}
-use Rattle.wild_fates.proofs.Failing.{wanted_before, wanted_behind, none_behind}
+use Rattle.wild_fates.proofs.Failing.{wanted_before, wanted_after, none_after}
 
 module _ (t : LinkerScript) (inputs : InputTable) where
   abbrev pub of_table : List Check
@@ -26,21 +26,21 @@ module _ (t : LinkerScript) (inputs : InputTable) where
 
   module _ (a : failing of_table ≡ None) where
     pub script_fails : (fault : Fault) → IsWanted (failing (script_checks t)) fault → IsWanted (failing (checks t inputs)) fault
-    script_fails fault h = wanted_before (of_table ++ script_checks t ++ of_symbols) of_support fault (wanted_before (of_table ++ script_checks t) of_symbols fault (wanted_behind of_table (script_checks t) fault a h))
+    script_fails fault h = wanted_before (of_table ++ script_checks t ++ of_symbols) of_support fault (wanted_before (of_table ++ script_checks t) of_symbols fault (wanted_after of_table (script_checks t) fault a h))
 
     module _ (b : failing (script_checks t) ≡ None) where
       script_holds : failing (of_table ++ script_checks t) ≡ None
-      script_holds = none_behind of_table (script_checks t) a b
+      script_holds = none_after of_table (script_checks t) a b
 
       pub symbols_fail : (fault : Fault) → IsWanted (failing of_symbols) fault → IsWanted (failing (checks t inputs)) fault
-      symbols_fail fault h = wanted_before (of_table ++ script_checks t ++ of_symbols) of_support fault (wanted_behind (of_table ++ script_checks t) of_symbols fault script_holds h)
+      symbols_fail fault h = wanted_before (of_table ++ script_checks t ++ of_symbols) of_support fault (wanted_after (of_table ++ script_checks t) of_symbols fault script_holds h)
 
       module _ (c : failing of_symbols ≡ None) where
         symbols_hold : failing (of_table ++ script_checks t ++ of_symbols) ≡ None
-        symbols_hold = none_behind (of_table ++ script_checks t) of_symbols script_holds c
+        symbols_hold = none_after (of_table ++ script_checks t) of_symbols script_holds c
 
         pub support_fails : (fault : Fault) → IsWanted (failing of_support) fault → IsWanted (failing (checks t inputs)) fault
-        support_fails fault h = wanted_behind (of_table ++ script_checks t ++ of_symbols) of_support fault symbols_hold h
+        support_fails fault h = wanted_after (of_table ++ script_checks t ++ of_symbols) of_support fault symbols_hold h
 
         pub all_hold : failing of_support ≡ None → failing (checks t inputs) ≡ None
-        all_hold d = none_behind (of_table ++ script_checks t ++ of_symbols) of_support symbols_hold d
+        all_hold d = none_after (of_table ++ script_checks t ++ of_symbols) of_support symbols_hold d

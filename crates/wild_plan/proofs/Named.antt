@@ -7,10 +7,10 @@ use Rattle.wild_expression_tree.specs.declared.tree.Expression.{Expression}
 use Rattle.wild_value_spec.specs.Answer.{◌>>=◌}
 use Rattle.wild_value_spec.specs.Known.{Known}
 use Rattle.wild_value_spec.specs.Scope.{Name, Scope}
-use Rattle.wild_plan_spec.specs.declared.listed_symbol.PlacedSymbol.{PlacedSymbol}
+use Rattle.wild_plan_spec.specs.declared.placed.PlacedSymbol.{PlacedSymbol}
 use Rattle.wild_plan_spec.specs.Places.{Place, Task, task_of}
-use Rattle.wild_plan_spec.specs.End.{assignment_symbol, listed_symbol, task_symbol, symbols}
-use Rattle.wild_plan.specs.Listed.{behind}
+use Rattle.wild_plan_spec.specs.Symbols.{assignment_symbol, listed_symbol, task_symbol, symbols}
+use Rattle.wild_plan.specs.Found.{found_then}
 
 -- a name that is not empty is listed
 pub assigned_named : (scope : Scope) (known : Known) (i : ℕ) (name : Name) (e : Expression) → (name ≡ [] → ⊥) → assignment_symbol scope known i name e ≡ listed_symbol scope known i name e false
@@ -19,18 +19,18 @@ assigned_named scope known i (b ∷ bs) e h = refl
 
 pub ruleset assigned_by_name = (assigned_named)
 
-behind_more : (found more : List PlacedSymbol) (answer : Result (List PlacedSymbol) Fault) → behind (found ++ more) answer ≡ behind found (answer >>= (λ rest. Ok (more ++ rest)))
-behind_more found more (Ok rest) = ap Ok (append_assoc found more rest)
-behind_more found more (Err f) = refl
+found_then_more : (found more : List PlacedSymbol) (answer : Result (List PlacedSymbol) Fault) → found_then (found ++ more) answer ≡ found_then found (answer >>= (λ rest. Ok (more ++ rest)))
+found_then_more found more (Ok rest) = ap Ok (append_assoc found more rest)
+found_then_more found more (Err f) = refl
 
-pub behind_nothing : (answer : Result (List PlacedSymbol) Fault) → behind [] answer ≡ answer
-behind_nothing (Ok rest) = refl
-behind_nothing (Err f) = refl
+pub found_then_all : (answer : Result (List PlacedSymbol) Fault) → found_then [] answer ≡ answer
+found_then_all (Ok rest) = refl
+found_then_all (Err f) = refl
 
 -- one place more
 pub symbols_more : (scope : Scope) (known : Known) (i : ℕ) (found : List PlacedSymbol) (p : Place) (ps : List Place) (task : Option Task) (s : Option PlacedSymbol) (next : List PlacedSymbol)
-    → task ≡ task_of p → task_symbol scope known i task ≡ Ok s → next ≡ found ++ option_to_list s → behind next (symbols scope known (i + 1) ps) ≡ behind found (symbols scope known i (p ∷ ps))
+    → task ≡ task_of p → task_symbol scope known i task ≡ Ok s → next ≡ found ++ option_to_list s → found_then next (symbols scope known (i + 1) ps) ≡ found_then found (symbols scope known i (p ∷ ps))
 symbols_more scope known i found p ps task s next a b c =
     let there : task_symbol scope known i (task_of p) ≡ Ok s = ap (task_symbol scope known i) (sym a) ∙ b in
     let here : symbols scope known i (p ∷ ps) ≡ symbols scope known (i + 1) ps >>= (λ rest. Ok (option_to_list s ++ rest)) = rw there refl in
-    ap (λ (xs : List PlacedSymbol). behind xs (symbols scope known (i + 1) ps)) c ∙ behind_more found (option_to_list s) (symbols scope known (i + 1) ps) ∙ ap (behind found) (sym here)
+    ap (λ (xs : List PlacedSymbol). found_then xs (symbols scope known (i + 1) ps)) c ∙ found_then_more found (option_to_list s) (symbols scope known (i + 1) ps) ∙ ap (found_then found) (sym here)

@@ -1,4 +1,4 @@
--- The names of sections and symbols, as they are kept, say what a script and its table say.
+-- Names of sections and symbols, as they are kept, say what a script and its table say.
 use Rattle.std.proofs.Common.{◌≡◌, ℕ, zero, suc, List, [], ◌∷◌, Option, Some, None, refl, ap, ◌∙◌}
 use Rattle.std.proofs.Math.Path.{fun_ext}
 use Rattle.std.specs.Prelude.{slice_get}
@@ -17,9 +17,9 @@ use Rattle.wild_plan_spec.specs.Orphans.{places_of}
 use Rattle.wild_plan_spec.specs.Fates.{section_names, fates_of}
 use Rattle.wild_plan_spec.specs.Scopes.{alignments_of, scope_of}
 use Rattle.wild_plan.specs.Entries.{shown_entries}
-use Rattle.wild_fates.specs.Pointed.{pointed}
+use Rattle.wild_fates.specs.Targets.{targets}
 
-name_same : (names : List (Bor Name)) (s : ℕ) → named.or_empty (slice_get names s) ≡ or_empty (slice_get (pointed names) s)
+name_same : (names : List (Bor Name)) (s : ℕ) → named.or_empty (slice_get names s) ≡ or_empty (slice_get (targets names) s)
 name_same [] s = refl
 name_same (x ∷ xs) zero = refl
 name_same (x ∷ xs) (suc s) = name_same xs s
@@ -43,8 +43,8 @@ abbrev all_of : LinkerScript → InputTable → List spec.SymbolEntry
 all_of t inputs = spec.all_entries (fates_of t inputs) inputs.symbols (places_of t inputs)
 
 -- what is said by lists of names, alignments and entries as they are kept
-abbrev pub kept : List (Bor Name) → List Name → List ℕ → List Name → List SymbolEntry → Bytes → Scope
-kept sections numbers alignments symbols entries script = record {
+abbrev pub kept_scope : List (Bor Name) → List Name → List ℕ → List Name → List SymbolEntry → Bytes → Scope
+kept_scope sections numbers alignments symbols entries script = record {
   section_name = λ s. named.or_empty (slice_get sections s);
   «section» = λ x. number_of x numbers;
   alignment = λ s. unwrap_or (slice_get alignments s) 0;
@@ -52,11 +52,10 @@ kept sections numbers alignments symbols entries script = record {
   line = λ i. line_of script i;
 }
 
-pub settings_same : (sections : List (Bor Name)) (numbers : List Name) (alignments : List ℕ) (symbols : List Name) (entries : List SymbolEntry) (script : Bytes) (t : LinkerScript) (inputs : InputTable)
-    → pointed sections ≡ section_names t inputs → numbers ≡ section_names t inputs → alignments ≡ alignments_of inputs.rows (fates_of t inputs) 0 (section_names t inputs)
-    → symbols ≡ spec.entry_names (all_of t inputs) → shown_entries entries ≡ all_of t inputs → kept sections numbers alignments symbols entries script ≡ scope_of script t inputs
-unfolding made
-settings_same sections numbers alignments symbols entries script t inputs a b c d e = made_same
+pub scopes_same : (sections : List (Bor Name)) (numbers : List Name) (alignments : List ℕ) (symbols : List Name) (entries : List SymbolEntry) (script : Bytes) (t : LinkerScript) (inputs : InputTable)
+    → targets sections ≡ section_names t inputs → numbers ≡ section_names t inputs → alignments ≡ alignments_of inputs.rows (fates_of t inputs) 0 (section_names t inputs)
+    → symbols ≡ spec.entry_names (all_of t inputs) → shown_entries entries ≡ all_of t inputs → kept_scope sections numbers alignments symbols entries script ≡ scope_of script t inputs
+scopes_same sections numbers alignments symbols entries script t inputs a b c d e = made_same
     (fun_ext (λ s. name_same sections s) ∙ ap (λ (xs : List Name). λ (s : ℕ). or_empty (slice_get xs s)) a)
     (ap (λ (xs : List Name). λ (x : Name). number_of x xs) b)
     (ap (λ (xs : List ℕ). λ (s : ℕ). unwrap_or (slice_get xs s) 0) c)

@@ -3,6 +3,7 @@ pub mod Traits
 pub mod Chunks
 pub mod Moves
 pub mod Listed
+pub mod Found
 pub mod Composed
 pub use Rattle.wild_plan_spec.specs.Fit
 pub use Rattle.wild_plan_spec.specs.Layout

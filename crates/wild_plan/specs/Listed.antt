@@ -1,10 +1,7 @@
--- What a plan lists of sections whose traits are known, and of symbols one after another.
-use Rattle.std.specs.Prelude.{ℕ, ◌+◌, ◌-◌, true, List, [], ◌∷◌, ◌++◌, None, Result, Ok, if◌then◌else◌}
-use Rattle.wild_names.specs.declared.fault.Fault.{Fault}
+-- What is said and listed of sections whose traits are known.
+use Rattle.std.specs.Prelude.{ℕ, ◌+◌, ◌-◌, true, List, [], ◌∷◌, None, if◌then◌else◌}
 use Rattle.wild_names.specs.declared.input_flags.InputFlags.{InputFlags}
 use Rattle.wild_plan_spec.specs.declared.placed.PlacedSection.{PlacedSection}
-use Rattle.wild_plan_spec.specs.declared.placed.PlacedSymbol.{PlacedSymbol}
-use Rattle.wild_value_spec.specs.Answer.{◌>>=◌}
 use Rattle.wild_value_spec.specs.Known.{Known, Start, Load, End, number_at}
 use Rattle.wild_plan_spec.specs.Names.{Name}
 use Rattle.wild_plan.specs.declared.traits.Traits.{Traits}
@@ -37,7 +34,3 @@ sections_by known traits s (x ∷ xs) = section_by known s x (traits s) ∷ sect
 abbrev pub alignments_by : (ℕ → Traits) → ℕ → List Name → List ℕ
 alignments_by traits s [] = []
 alignments_by traits s (x ∷ xs) = (traits s).alignment ∷ alignments_by traits (s + 1) xs
-
--- these symbols and those of the answer
-abbrev pub behind : List PlacedSymbol → Result (List PlacedSymbol) Fault → Result (List PlacedSymbol) Fault
-behind found answer = answer >>= (λ rest. Ok (found ++ rest))

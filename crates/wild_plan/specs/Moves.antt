@@ -6,6 +6,7 @@ use Rattle.wild_plan_spec.specs.Steps.{State}
 use Rattle.wild_plan.specs.declared.walk.Walk.{Walk}
 use Rattle.wild_eval.specs.Addresses.{known_of}
 
+-- what stands before the next place
 abbrev pub state_of : Walk → State
 state_of w = record { counter = w.counter; cursor = w.cursor; known = known_of w.addresses; locations = w.locations }
 

@@ -4,7 +4,7 @@ ghost use Rattle.std.specs.Prelude.{◌≡◌, [], ◌∷◌, ◌++◌, OnOk, If
 ghost use Rattle.std.specs.List.{list_any};
 ghost use Rattle.wild_numbering.specs.Numbering.{is_named};
 ghost use Rattle.wild_names.specs.declared.fault.Fault.TheVariants.{DuplicateSymbol};
-ghost use Rattle.wild_plan_spec.specs.Checks.{row_checks, holds_offset, symbol_checks, name_checks, is_plain, is_supported, support_checks, failing};
+ghost use Rattle.wild_plan_spec.specs.Checks.{row_checks, holds_offset, symbol_checks, name_checks, are_flags_built, is_supported, support_checks, failing};
 ghost use Rattle.wild_plan_spec.specs.Definitions.{entry_names};
 ghost use Rattle.wild_plan.specs.Entries.{shown_entries};
 ghost use Rattle.wild_fates.specs.Passes.{Passes, repeated};
@@ -52,7 +52,7 @@ pub fn check_symbols(rows: &[InputRow], symbols: &[SymbolRow]) -> Result<(), Fau
     Ok(())
 }
 
-/// Puts a name behind the others. Answers whether none of them was the same.
+/// Puts a name after the others. Answers whether none of them was the same.
 #[tactic(auto, using(wild_fates::proofs::Names::any_number))]
 fn push_name(alloc: Global, names: &mut Numbering, name: &Name) -> Result<bool, NoMemory>
     ensures pushed { OnOk result (names.new ≡ names.old ++ name.now ∷ []) }
@@ -90,8 +90,8 @@ pub fn number_entries(alloc: Global, entries: &[SymbolEntry<'_>]) -> Result<Numb
 }
 
 /// It is in memory, and neither without bits nor thread-local.
-fn is_plain(flags: InputFlags) -> bool
-    ensures { result ≡ is_plain flags }
+fn are_flags_built(flags: InputFlags) -> bool
+    ensures { result ≡ are_flags_built flags }
 {
     flags.contains(InputFlags::ALLOC)
         && !flags.contains(InputFlags::NOBITS)
@@ -103,7 +103,7 @@ fn is_supported(fate: Option<Kept>, flags: InputFlags) -> bool
     ensures { result ≡ is_supported fate flags }
 {
     match fate {
-        Some(_) => is_plain(flags),
+        Some(_) => are_flags_built(flags),
         None => true,
     }
 }

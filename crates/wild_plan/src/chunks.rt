@@ -30,7 +30,7 @@ impl Chunks {
         }
     }
 
-    /// A row behind those of its chunk.
+    /// A row after those of its chunk.
     fn push(&mut self, alloc: Global, row: ChunkRow) -> Result<(), NoMemory>
         ensures { OnOk result ((q : Chunk) → rows_at self.new q ≡ rows_at self.old q ++ (if is_of q row then row ∷ [] else [])) }
     {
@@ -69,7 +69,7 @@ fn sort_name(alloc: Global, sorted: bool, row: &InputRow) -> Result<Name, NoMemo
     }
 }
 
-// A row of this number behind the others, where it is kept.
+// A row of this number after the others, where it is kept.
 fn push_kept(
     alloc: Global,
     rows: &mut Vec<ChunkRow>,
@@ -93,7 +93,7 @@ fn push_kept(
 }
 
 /// The rows that are kept, in table order, each with its chunk.
-fn in_chunks(
+fn find_kept_rows(
     alloc: Global,
     rows: &[InputRow],
     fates: &[Option<Kept>],
@@ -134,7 +134,7 @@ pub fn find_chunks(
     requires { length fates.now ≡ length rows.now }
     ensures { IfOk result (λ c. (q : Chunk) → IsOrdered stands_before (rows_in q rows.now fates.now) (rows_at c q)) }
 {
-    let mut kept = in_chunks(alloc, rows, fates)?;
+    let mut kept = find_kept_rows(alloc, rows, fates)?;
     sort(&mut kept)?;
     by_chunk(alloc, kept)
 }

@@ -4,7 +4,7 @@ ghost use Rattle.std.specs.Prelude.{◌≡◌, [], ◌∷◌, ◌++◌, OnOk, If
 ghost use Rattle.wild_eval.specs.Scope.{shown_definition};
 ghost use Rattle.wild_plan_spec.specs.Definitions.{entry_of, symbol_chunk, table_entry, table_entries, point_of, assigned_by, assigned_entries, provide_entry, provided_by, provided_entries, firm_entries, entry_names};
 ghost use Rattle.wild_plan.specs.Entries.{shown_entries};
-ghost use Rattle.wild_fates.specs.Shown.{shown, shown_place, shown_task};
+ghost use Rattle.wild_fates.specs.Shown.{shown_places, shown_place, shown_task};
 
 use sqlite_items::Items;
 use std::alloc::Global;
@@ -34,7 +34,7 @@ fn push<'a>(entries: &mut Items<SymbolEntry<'a>>, entry: SymbolEntry<'a>) -> Res
     Ok(())
 }
 
-// Puts an entry behind the others, unless its name is empty.
+// Puts an entry after the others, unless its name is empty.
 #[tactic(auto, using(crate::proofs::Entries::named_or_not))]
 fn push_named<'a>(
     entries: &mut Items<SymbolEntry<'a>>,
@@ -60,7 +60,7 @@ pub fn symbol_chunk(fates: &[Option<Kept>], symbol: &SymbolRow) -> Option<Chunk>
     }
 }
 
-fn push_row<'a>(
+fn push_table_entry<'a>(
     entries: &mut Items<SymbolEntry<'a>>,
     symbol: &'a SymbolRow,
     chunk: Option<Chunk>,
@@ -81,7 +81,7 @@ fn push_row<'a>(
     }
 }
 
-fn push_rows<'a>(
+fn push_table_entries<'a>(
     entries: &mut Items<SymbolEntry<'a>>,
     fates: &[Option<Kept>],
     symbols: &'a [SymbolRow],
@@ -89,12 +89,12 @@ fn push_rows<'a>(
     ensures { OnOk result (shown_entries entries.new ≡ shown_entries entries.old ++ table_entries fates.now symbols.now) }
 {
     for symbol in symbols {
-        push_row(entries, symbol, symbol_chunk(fates, symbol))?;
+        push_table_entry(entries, symbol, symbol_chunk(fates, symbol))?;
     }
     Ok(())
 }
 
-fn push_assigned<'a>(
+fn push_assignment<'a>(
     entries: &mut Items<SymbolEntry<'a>>,
     index: usize,
     task: Option<Task<'a>>,
@@ -110,9 +110,9 @@ fn push_assigned<'a>(
     }
 }
 
-// Puts the entry of a PROVIDE and its name behind the others, unless it is empty.
+// Puts the entry of a PROVIDE and its name after the others, unless it is empty.
 #[tactic(auto, using(crate::proofs::Entries::named_or_not))]
-fn push_provide<'a>(
+fn push_provide_entry<'a>(
     alloc: Global,
     entries: &mut Items<SymbolEntry<'a>>,
     names: &mut Numbering,
@@ -137,7 +137,7 @@ fn push_provide<'a>(
     )
 }
 
-fn push_provided<'a>(
+fn push_if_provide<'a>(
     alloc: Global,
     entries: &mut Items<SymbolEntry<'a>>,
     names: &mut Numbering,
@@ -148,50 +148,50 @@ fn push_provided<'a>(
     ensures names { OnOk result (names.new ≡ names.old ++ entry_names (provided_by index (shown_task task.entry))) }
 {
     match task {
-        Some(Task::Provide(provide)) => push_provide(alloc, entries, names, index, provide),
+        Some(Task::Provide(provide)) => push_provide_entry(alloc, entries, names, index, provide),
         _ => Ok(()),
     }
 }
 
-fn push_all_assigned<'a>(
+fn push_assigned_entries<'a>(
     entries: &mut Items<SymbolEntry<'a>>,
     places: &[Place<'a>],
 ) -> Result<(), NoMemory>
-    ensures { OnOk result (shown_entries entries.new ≡ shown_entries entries.old ++ assigned_entries 0 (shown places.now)) }
+    ensures { OnOk result (shown_entries entries.new ≡ shown_entries entries.old ++ assigned_entries 0 (shown_places places.now)) }
 {
     for (index, place) in places.iter().enumerate() {
-        push_assigned(entries, index, place.task())?;
+        push_assignment(entries, index, place.task())?;
     }
     Ok(())
 }
 
 /// What must not be defined twice: the symbols of the table, then the assignments. Fails where memory runs out.
-pub fn find_entries<'a>(
+pub fn find_firm_entries<'a>(
     alloc: Global,
     fates: &[Option<Kept>],
     symbols: &'a [SymbolRow],
     places: &[Place<'a>],
 ) -> Result<Items<SymbolEntry<'a>>, NoMemory>
-    ensures { IfOk result (λ entries. shown_entries entries ≡ firm_entries fates.now symbols.now (shown places.now)) }
+    ensures { IfOk result (λ entries. shown_entries entries ≡ firm_entries fates.now symbols.now (shown_places places.now)) }
 {
     let mut entries = Items::new(alloc);
-    push_rows(&mut entries, fates, symbols)?;
-    push_all_assigned(&mut entries, places)?;
+    push_table_entries(&mut entries, fates, symbols)?;
+    push_assigned_entries(&mut entries, places)?;
     Ok(entries)
 }
 
-/// Puts the PROVIDEs, and their names, behind the others. Fails where memory runs out.
-pub fn push_all_provided<'a>(
+/// Puts the PROVIDEs, and their names, after the others. Fails where memory runs out.
+pub fn push_provided_entries<'a>(
     alloc: Global,
     entries: &mut Items<SymbolEntry<'a>>,
     names: &mut Numbering,
     places: &[Place<'a>],
 ) -> Result<(), NoMemory>
-    ensures entries { OnOk result (shown_entries entries.new ≡ shown_entries entries.old ++ provided_entries 0 (shown places.now)) }
-    ensures names { OnOk result (names.new ≡ names.old ++ entry_names (provided_entries 0 (shown places.now))) }
+    ensures entries { OnOk result (shown_entries entries.new ≡ shown_entries entries.old ++ provided_entries 0 (shown_places places.now)) }
+    ensures names { OnOk result (names.new ≡ names.old ++ entry_names (provided_entries 0 (shown_places places.now))) }
 {
     for (index, place) in places.iter().enumerate() {
-        push_provided(alloc, entries, names, index, place.task())?;
+        push_if_provide(alloc, entries, names, index, place.task())?;
     }
     Ok(())
 }

@@ -5,17 +5,19 @@ mod check;
 mod chunks;
 mod definitions;
 mod ends;
+mod ground;
 mod listing;
 mod lists;
 mod overlap;
 mod pipeline;
+mod symbols;
 mod traits;
 mod walk;
 
 pub use lists::Plan;
 pub use pipeline::plan;
 pub use wild_plan_spec::{
-    Chunk, InputRow, InputRows, InputTable, Names, PlacedInput, PlacedLocation, PlacedSection,
-    PlacedSymbol, PlanOptions, RowNames, SymbolRow, SymbolRows,
+    InputRow, InputRows, InputTable, Names, PlacedInput, PlacedLocation, PlacedSection,
+    PlacedSymbol, PlanOptions, SymbolRow, SymbolRows,
 };
 pub use wild_plan_text::{address_text, fault_text, name_text};

@@ -1,22 +1,19 @@
 //! What a plan lists, once all places are laid out.
 
-ghost use Rattle.std.specs.Prelude.{◌≡◌, ◌++◌, OnOk, IfOk};
-ghost use Rattle.wild_plan_spec.specs.Layout.{placed_input, placed_inputs, row_names, table_symbol, table_symbols};
+ghost use Rattle.std.specs.Prelude.{◌≡◌, IfOk};
+ghost use Rattle.wild_plan_spec.specs.Layout.{placed_input, placed_inputs, row_names};
 ghost use Rattle.wild_plan.specs.Listed.{flags_by, section_by, sections_by};
-ghost use Rattle.wild_fates.specs.Pointed.{pointed};
+ghost use Rattle.wild_fates.specs.Targets.{targets};
 ghost use Rattle.wild_eval.specs.Addresses.{known_of};
 ghost use Rattle.wild_plan.specs.Traits.{traits_at};
 
-use crate::definitions::symbol_chunk;
 use crate::traits::{SectionTraits, Traits};
 use bitflags::Flags;
 use sqlite_items::Items;
 use std::alloc::Global;
 use wild_base::{InputFlags, Name, NoMemory};
 use wild_eval::Addresses;
-use wild_plan_spec::{
-    Chunk, InputRow, Kept, PlacedInput, PlacedSection, PlacedSymbol, RowNames, SymbolRow,
-};
+use wild_plan_spec::{InputRow, Kept, Names, PlacedInput, PlacedSection, RowNames};
 
 /// In memory, and writable or executable where a row is.
 fn flags_by(traits: Traits) -> InputFlags
@@ -53,7 +50,7 @@ fn placed_section(
         flags: flags_by(traits),
         fill: None,
         region: None,
-        headers: Items::new(alloc),
+        headers: Names::new(alloc),
         counted: true,
     })
 }
@@ -65,11 +62,11 @@ pub fn placed_sections(
     traits: &SectionTraits,
     names: &[&Name],
 ) -> Result<Items<PlacedSection>, NoMemory>
-    ensures { IfOk result (λ placed. placed ≡ sections_by (known_of addresses.now) (traits_at traits.now) 0 (pointed names.now)) }
+    ensures { IfOk result (λ placed. placed ≡ sections_by (known_of addresses.now) (traits_at traits.now) 0 (targets names.now)) }
 {
     let mut placed = Items::new(alloc);
     for (i, name) in names.iter().enumerate() {
-        placed.push(placed_section(alloc, table, traits.get(i), i, name)?)?;
+        placed.push(placed_section(alloc, addresses, traits.get(i), i, name)?)?;
     }
     Ok(placed)
 }
@@ -97,7 +94,7 @@ pub fn placed_inputs(
 {
     let mut placed = Items::new(alloc);
     for (i, fate) in fates.iter().enumerate() {
-        placed.push(placed_input(table, i, *fate))?;
+        placed.push(placed_input(addresses, i, *fate))?;
     }
     Ok(placed)
 }
@@ -120,49 +117,4 @@ pub fn row_names(alloc: Global, rows: &[InputRow]) -> Result<Items<RowNames>, No
         names.push(names_of(alloc, row)?)?;
     }
     Ok(names)
-}
-
-// A symbol of the table, in the chunk of its row. No row passes 2 ^ 64, so the sum does not wrap.
-fn push_symbol(
-    alloc: Global,
-    symbols: &mut Items<PlacedSymbol>,
-    addresses: &Addresses,
-    symbol: &SymbolRow,
-    chunk: Option<Chunk>,
-) -> Result<(), NoMemory>
-    ensures { OnOk result (symbols.new ≡ symbols.old ++ table_symbol (known_of addresses.now) symbol.now chunk) }
-{
-    let Some(chunk) = chunk else {
-        return Ok(());
-    };
-    let name = symbol.name.copy(alloc)?;
-    symbols.push(PlacedSymbol {
-        name,
-        address: addresses.address(symbol.row).wrapping_add(symbol.offset),
-        section: Some(chunk.section),
-        hidden: false,
-    })?;
-    Ok(())
-}
-
-/// The symbols of the table, in table order, by the fates of the rows.
-pub fn placed_symbols(
-    alloc: Global,
-    addresses: &Addresses,
-    fates: &[Option<Kept>],
-    symbols: &[SymbolRow],
-) -> Result<Items<PlacedSymbol>, NoMemory>
-    ensures { IfOk result (λ placed. placed ≡ table_symbols (known_of addresses.now) fates.now symbols.now) }
-{
-    let mut placed = Items::new(alloc);
-    for symbol in symbols {
-        push_symbol(
-            alloc,
-            &mut placed,
-            table,
-            symbol,
-            symbol_chunk(fates, symbol),
-        )?;
-    }
-    Ok(placed)
 }

@@ -2,12 +2,12 @@
 
 ghost use Rattle.std.specs.Prelude.{◌≡◌, Some, None, if◌then◌else◌};
 ghost use Rattle.wild_eval.specs.Addresses.{known_of};
-ghost use Rattle.wild_plan_spec.specs.Steps as spec;
+ghost use Rattle.wild_plan_spec.specs.Overlaps as spec;
 
 use wild_eval::Addresses;
 
 /// Whether an earlier section holds one of the addresses from start up to end.
-#[tactic(auto, unfolding(wild_plan_spec::specs::Steps::shares))]
+#[tactic(auto, unfolding(wild_plan_spec::specs::Overlaps::shares))]
 fn shares(addresses: &Addresses, start: u64, end: u64, section: usize) -> bool
     ensures { result ≡ spec.shares (known_of addresses.now) start end section }
 {
@@ -19,7 +19,7 @@ fn shares(addresses: &Addresses, start: u64, end: u64, section: usize) -> bool
 fn if_shares(addresses: &Addresses, start: u64, end: u64, section: usize) -> Option<usize>
     ensures { result ≡ (if spec.shares (known_of addresses.now) start end section then Some section else None) }
 {
-    if shares(table, start, end, section) {
+    if shares(addresses, start, end, section) {
         Some(section)
     } else {
         None
@@ -27,8 +27,12 @@ fn if_shares(addresses: &Addresses, start: u64, end: u64, section: usize) -> Opt
 }
 
 /// Of two sections the one that starts lower, or the first of them.
-fn lower(addresses: &Addresses, first: Option<usize>, second: Option<usize>) -> Option<usize>
-    ensures { result ≡ spec.lower (known_of addresses.now) first second }
+fn lower_section(
+    addresses: &Addresses,
+    first: Option<usize>,
+    second: Option<usize>,
+) -> Option<usize>
+    ensures { result ≡ spec.lower_section (known_of addresses.now) first second }
 {
     match (first, second) {
         (None, found) => found,
@@ -45,12 +49,12 @@ fn lower(addresses: &Addresses, first: Option<usize>, second: Option<usize>) -> 
 
 /// Of the sections with numbers below `count` that share an address with those from start up to end, the one that starts
 /// lowest.
-pub fn sharing(addresses: &Addresses, start: u64, end: u64, count: usize) -> Option<usize>
-    ensures { result ≡ spec.sharing (known_of addresses.now) start end count }
+pub fn lowest_sharing(addresses: &Addresses, start: u64, end: u64, count: usize) -> Option<usize>
+    ensures { result ≡ spec.lowest_sharing (known_of addresses.now) start end count }
 {
     let mut found = None;
     for section in 0..count {
-        found = lower(table, found, if_shares(table, start, end, section));
+        found = lower_section(addresses, found, if_shares(addresses, start, end, section));
     }
     found
 }

@@ -10,11 +10,11 @@ ghost use Rattle.wild_plan_spec.specs.Steps.{first_state, up, section_opened, ro
 ghost use Rattle.wild_plan_spec.specs.Walk.{Stands, Refuses};
 ghost use Rattle.wild_plan.specs.Chunks.{rows_at};
 ghost use Rattle.wild_plan.specs.Moves.{Moves, state_of};
-ghost use Rattle.wild_fates.specs.Shown.{shown_place, shown};
+ghost use Rattle.wild_fates.specs.Shown.{shown_place, shown_places};
 
 use crate::chunks::Chunks;
 use crate::definitions::point_of;
-use crate::overlap::sharing;
+use crate::overlap::lowest_sharing;
 use sqlite_items::Items;
 use std::alloc::Global;
 use wild_base::{Alignment, Fault, Name, NoMemory, alignment};
@@ -92,7 +92,7 @@ impl Walk {
     }
 
     #[tactic(auto, unfolding(wild_plan_spec::specs::Steps::section_opened))]
-    fn open(&mut self, section: usize, alignment: Alignment) -> Result<(), Fault>
+    fn open_section(&mut self, section: usize, alignment: Alignment) -> Result<(), Fault>
         ensures { Moves result self.new (section_opened section alignment (state_of self.old)) }
     {
         let start = up(self.counter, alignment)?;
@@ -132,7 +132,7 @@ impl Walk {
 
     // The rows of the chunk that a matcher collects for, if it has one.
     #[tactic(auto, unfolding(wild_plan_spec::specs::Steps::chunk_collected))]
-    fn collect(&mut self, chunks: &Chunks, chunk: Option<Chunk>) -> Result<(), Fault>
+    fn collect_chunk(&mut self, chunks: &Chunks, chunk: Option<Chunk>) -> Result<(), Fault>
         ensures { Moves result self.new (chunk_collected (rows_at chunks.now) chunk (state_of self.old)) }
     {
         match chunk {
@@ -142,7 +142,7 @@ impl Walk {
     }
 
     #[tactic(auto, unfolding(wild_plan_spec::specs::Steps::section_ended))]
-    fn end(&mut self, section: usize) -> Result<(), Fault>
+    fn end_section(&mut self, section: usize) -> Result<(), Fault>
         ensures { Moves result self.new (section_ended section (state_of self.old)) }
     {
         self.addresses.learn_end(section, self.cursor)?;
@@ -151,19 +151,24 @@ impl Walk {
     }
 
     #[tactic(auto, unfolding(wild_plan_spec::specs::Steps::section_ended_alone))]
-    fn end_alone(&mut self, alloc: Global, scope: &Scope<'_>, section: usize) -> Result<(), Fault>
+    fn end_section_alone(
+        &mut self,
+        alloc: Global,
+        scope: &Scope<'_>,
+        section: usize,
+    ) -> Result<(), Fault>
         ensures { Moves result self.new (section_ended_alone (scope_of scope.now) section (state_of self.old)) }
     {
         let start = self.addresses.start(section);
-        match sharing(&self.addresses, start, self.cursor, section) {
-            None => self.end(section),
+        match lowest_sharing(&self.addresses, start, self.cursor, section) {
+            None => self.end_section(section),
             Some(other) => Err(overlap(alloc, scope, other, section)?),
         }
     }
 
     // The rows of the rest are placed, and the section ends.
     #[tactic(auto, unfolding(wild_plan_spec::specs::Steps::section_ended_after))]
-    fn end_behind(
+    fn end_section_after(
         &mut self,
         given: &Given<'_>,
         rest: &[ChunkRow],
@@ -172,16 +177,21 @@ impl Walk {
         ensures { Moves result self.new (section_ended_after (scope_of given.now.scope.now) rest.now section (state_of self.old)) }
     {
         self.place_chunk(rest)?;
-        self.end_alone(given.alloc, given.scope, section)
+        self.end_section_alone(given.alloc, given.scope, section)
     }
 
     #[tactic(auto, unfolding(wild_plan_spec::specs::Steps::section_closed))]
-    fn close(&mut self, given: &Given<'_>, section: usize, rest: Option<Chunk>) -> Result<(), Fault>
+    fn close_section(
+        &mut self,
+        given: &Given<'_>,
+        section: usize,
+        rest: Option<Chunk>,
+    ) -> Result<(), Fault>
         ensures { Moves result self.new (section_closed (scope_of given.now.scope.now) (rows_at given.now.chunks.now) section rest (state_of self.old)) }
     {
         match rest {
-            None => self.end_alone(given.alloc, given.scope, section),
-            Some(chunk) => self.end_behind(given, given.chunks.rows(chunk), section),
+            None => self.end_section_alone(given.alloc, given.scope, section),
+            Some(chunk) => self.end_section_after(given, given.chunks.rows(chunk), section),
         }
     }
 
@@ -213,7 +223,7 @@ impl Walk {
 
     // A place that waits until all are laid out.
     #[tactic(auto, unfolding(wild_plan_spec::specs::Steps::counter_noted))]
-    fn pass(&mut self, place: usize, dot: u64) -> Result<(), Fault>
+    fn note_counter(&mut self, place: usize, dot: u64) -> Result<(), Fault>
         ensures { Moves result self.new (counter_noted place dot (state_of self.old)) }
     {
         self.addresses.learn_dot(place, dot)?;
@@ -228,12 +238,12 @@ impl Walk {
             Place::SetLocation(expression) => {
                 self.set_location(given.alloc, given.scope, number, expression)
             }
-            Place::Within(_) => self.pass(number, self.counter),
-            Place::Outside(_) => self.pass(number, 0),
-            Place::Open(section) => self.open(section, given.scope.alignment(section)),
-            Place::Collect(chunk, _) => self.collect(given.chunks, chunk),
+            Place::Within(_) => self.note_counter(number, self.counter),
+            Place::Outside(_) => self.note_counter(number, 0),
+            Place::Open(section) => self.open_section(section, given.scope.alignment(section)),
+            Place::Collect(chunk, _) => self.collect_chunk(given.chunks, chunk),
             Place::Rows(chunk) => self.place_chunk(given.chunks.rows(chunk)),
-            Place::Close(section, rest) => self.close(given, section, rest),
+            Place::Close(section, rest) => self.close_section(given, section, rest),
             Place::Idle => Ok(()),
         }
     }
@@ -248,10 +258,10 @@ pub struct Given<'a> {
     pub chunks: &'a Chunks,
 }
 
-/// Lays out the places: what stands behind the last one, or the fault of the first that refuses.
+/// Lays out the places: what stands after the last one, or the fault of the first that refuses.
 pub fn lay_out(given: &Given<'_>, places: &[Place<'_>]) -> Result<Walk, Fault>
-    ensures laid_out { IfOk result (λ walk. Stands (scope_of given.now.scope.now) (rows_at given.now.chunks.now) (shown places.now) (length (shown places.now)) (state_of walk)) }
-    ensures refused { IfErr result (λ f. (f ≡ fault.NoMemory) ⊎ Refuses (scope_of given.now.scope.now) (rows_at given.now.chunks.now) (shown places.now) f) }
+    ensures laid_out { IfOk result (λ walk. Stands (scope_of given.now.scope.now) (rows_at given.now.chunks.now) (shown_places places.now) (length (shown_places places.now)) (state_of walk)) }
+    ensures refused { IfErr result (λ f. (f ≡ fault.NoMemory) ⊎ Refuses (scope_of given.now.scope.now) (rows_at given.now.chunks.now) (shown_places places.now) f) }
 {
     let mut walk = Walk::new(given.alloc);
     for (number, place) in places.iter().enumerate() {

@@ -18,7 +18,7 @@ use Rattle.wild_plan_spec.specs.Names.{Name}
 use Rattle.wild_plan_spec.specs.Scopes.{alignments_of, scope_of}
 use Rattle.wild_plan_laws.specs.Holding.{LiesIn, RowHolds, SectionHolds, LaidSectionStands}
 use Rattle.wild_plan_laws.proofs.Chunked.{chunk_rows}
-use Rattle.wild_plan_laws.proofs.Laid.{GoesTo, Behind, Amid, nothing_behind, behind_alike, opens_amid, chunk_amid, ends_behind, not_both}
+use Rattle.wild_plan_laws.proofs.Laid.{GoesTo, After, Amid, nothing_after, after_alike, opens_amid, chunk_amid, ends_after, not_both}
 use Rattle.wild_plan_laws.proofs.Walked.{walked}
 
 -- the first section of the list has the number s
@@ -32,27 +32,27 @@ module _ (script : Bytes) (t : LinkerScript) (inputs : InputTable) (state : Stat
   abbrev fates : List (Option Kept)
   fates = fates_of t inputs
 
-  -- what holds behind all sections
-  all_behind : Behind (scope_of script t inputs) inputs.rows fates (length (section_names t inputs)) state.known
-  all_behind =
+  -- what holds after all sections
+  all_after : After (scope_of script t inputs) inputs.rows fates (length (section_names t inputs)) state.known
+  all_after =
       let scope = scope_of script t inputs in
-      walked scope f.order (Behind scope inputs.rows fates) (Amid scope inputs.rows fates)
-      (behind_alike scope inputs.rows fates)
+      walked scope f.order (After scope inputs.rows fates) (Amid scope inputs.rows fates)
+      (after_alike scope inputs.rows fates)
       (opens_amid scope inputs.rows fates)
       (λ q st next h e. chunk_amid scope inputs.rows fates q (f.order q) st next (chunk_rows inputs.rows fates q (f.order q) (f.ordered q)) h e)
-      (ends_behind scope inputs.rows fates)
-      t inputs state f.stands (nothing_behind scope inputs.rows fates)
+      (ends_after scope inputs.rows fates)
+      t inputs state f.stands (nothing_after scope inputs.rows fates)
 
   pub sections_stand : (s : ℕ) (name : Name) → slice_get (section_names t inputs) s ≡ Some name → LaidSectionStands state.known s (largest_alignment (section_rows s inputs.rows fates))
   sections_stand s name there =
       let low = slice_get_within (section_names t inputs) s name there in
       let z : 0 + s ≡ s = omega arith in
       let alignment = alignment_at inputs.rows fates 0 (section_names t inputs) s name there ∙ ap (λ (n : ℕ). largest_alignment (section_rows n inputs.rows fates)) z in
-      subst (LaidSectionStands state.known s) alignment (all_behind.stand s low)
+      subst (LaidSectionStands state.known s) alignment (all_after.stand s low)
 
   pub rows_lie_in_sections : (r : ℕ) (row : InputRow) (k : Kept) → slice_get inputs.rows r ≡ Some row → slice_get fates r ≡ Some (Some k) → (a : ℕ) → state.known (Address r) ≡ Some a → LiesIn state.known k.chunk.«section» a row.size
   rows_lie_in_sections r row k there fate a known =
-      let found = all_behind.lie r a known in
+      let found = all_after.lie r a known in
       let lies = found.lies in
       let rows : Some lies.row ≡ Some row = sym lies.there ∙ there in
       let same : lies.row ≡ row = cc in
@@ -65,10 +65,10 @@ module _ (script : Bytes) (t : LinkerScript) (inputs : InputTable) (state : Stat
 
   -- a section that starts is one of those that stand
   pub starts_below : (s n : ℕ) → state.known (Start s) ≡ Some n → s < length (section_names t inputs)
-  starts_below s n e = ⊎_elim (λ lt. lt) (λ le. absurd (not_both (state.known (Start s)) n (all_behind.fresh s le).starts e)) (cases_lt s (length (section_names t inputs)))
+  starts_below s n e = ⊎_elim (λ lt. lt) (λ le. absurd (not_both (state.known (Start s)) n (all_after.fresh s le).starts e)) (cases_lt s (length (section_names t inputs)))
 
   pub sections_do_not_overlap : (s u x : ℕ) → SectionHolds state.known s x → SectionHolds state.known u x → s ≡ u
-  sections_do_not_overlap s u x one other = all_behind.sections_apart s u x (starts_below s one.start one.spans.starts) (starts_below u other.start other.spans.starts) one other
+  sections_do_not_overlap s u x one other = all_after.sections_apart s u x (starts_below s one.start one.spans.starts) (starts_below u other.start other.spans.starts) one other
 
   -- the section of a row holds what the row holds
   record Within (r x : ℕ) : Type 0 where
@@ -78,7 +78,7 @@ module _ (script : Bytes) (t : LinkerScript) (inputs : InputTable) (state : Stat
 
   within : (r x : ℕ) → RowHolds inputs.rows state.known r x → Within r x
   within r x h =
-      let found = all_behind.lie r h.address h.placed in
+      let found = all_after.lie r h.address h.placed in
       let lies = found.lies in
       let rows : Some lies.row ≡ Some h.row = sym lies.there ∙ h.there in
       let same : lies.row ≡ h.row = cc in
@@ -94,4 +94,4 @@ module _ (script : Bytes) (t : LinkerScript) (inputs : InputTable) (state : Stat
       let first = within p x one in
       let second = within r x other in
       let same = sections_do_not_overlap first.number second.number x first.holds second.holds in
-      all_behind.rows_apart second.number p r x (subst (GoesTo (scope_of script t inputs) inputs.rows fates p) same first.goes) second.goes one other
+      all_after.rows_apart second.number p r x (subst (GoesTo (scope_of script t inputs) inputs.rows fates p) same first.goes) second.goes one other

@@ -25,9 +25,9 @@ use Rattle.wild_plan_spec.specs.Fates.{rule_decision, name_decision, decision, n
 use Rattle.wild_plan_spec.specs.Names.{Name}
 use Rattle.wild_plan_spec.specs.Orphans.{orphan_places, places_of}
 use Rattle.wild_plan_spec.specs.Places.{Place, SetLocation, Within, Outside, Open, Collect, Rows, Close, Idle, contents_places, rest_chunk, section_places, discard_places, all_places, script_places}
-use Rattle.wild_plan_spec.specs.Rules.{Rule, rule_of, decided, pattern_rules, place_rules, rules_in, rules_of, takes_row, first_rule}
+use Rattle.wild_plan_spec.specs.Rules.{Rule, rule_of, pattern_decision, pattern_rules, place_rules, rules_in, rules_of, takes_row, first_rule}
 use Rattle.wild_plan_spec.specs.Statements.{Statement, Inner, Outer, is_discard, statement_sections, statements_of, sections_of}
-use Rattle.wild_plan_laws.proofs.Having.{Has, has_before, has_behind, has_either, has_found}
+use Rattle.wild_plan_laws.proofs.Having.{Has, has_before, has_after, has_either, has_found}
 
 -- the place lays out the rows of the chunk
 abbrev pub Lays : Chunk → Place → Type 0
@@ -52,16 +52,16 @@ module _ (k : Kept) where
   one_keeps (Ok files) (Ok names) d (inl h) = h
   one_keeps (Ok files) (Ok names) d (inr h) = absurd h
 
-  decided_keeps : (q : Option Chunk) (p : SectionPattern) → decided q p ≡ Keep k → q ≡ Some k.chunk
+  decided_keeps : (q : Option Chunk) (p : SectionPattern) → pattern_decision q p ≡ Keep k → q ≡ Some k.chunk
   decided_keeps None p e = absurd (cc)
   decided_keeps (Some q) p e = let same : record { chunk = q; sorted = p.sorted } ≡ k = cc in ap (λ (kept : Kept). Some kept.chunk) same
 
   patterns_keep : (q : Option Chunk) (file : Option Name) (ps : List SectionPattern) → Has (Keeps k) (pattern_rules q file ps) → q ≡ Some k.chunk
   patterns_keep q file [] h = absurd h
   patterns_keep q file (p ∷ ps) h = ⊎_elim
-      (λ first. decided_keeps q p (one_keeps (making.files_of file) (making.names_of p.name) (decided q p) first))
+      (λ first. decided_keeps q p (one_keeps (making.files_of file) (making.names_of p.name) (pattern_decision q p) first))
       (λ rest. patterns_keep q file ps rest)
-      (has_either (Keeps k) (rule_of (making.files_of file) (making.names_of p.name) (decided q p)) (pattern_rules q file ps) h)
+      (has_either (Keeps k) (rule_of (making.files_of file) (making.names_of p.name) (pattern_decision q p)) (pattern_rules q file ps) h)
 
   place_keeps : (p : Place) → Has (Keeps k) (place_rules p) → Lays k.chunk p
   place_keeps (SetLocation e) h = absurd h
@@ -125,10 +125,10 @@ section_lays s n x e = subst (λ (m : ℕ). Has (Lays (first_of m)) (section_pla
 inner_lays : (b : Bool) (x : Section) (s n : ℕ) (rest : List Section) (others : ℕ → List Place) → s ≤ n → n < s + length (cond b [] (x ∷ []) ++ rest)
     → ((m : ℕ) → m ≤ n → n < m + length rest → Has (Lays (first_of n)) (others m))
     → Has (Lays (first_of n)) (cond b (discard_places x) (section_places s x) ++ others (cond b s (s + 1)))
-inner_lays true x s n rest others low high later = has_behind (Lays (first_of n)) (discard_places x) (others s) (later s low high)
+inner_lays true x s n rest others low high later = has_after (Lays (first_of n)) (discard_places x) (others s) (later s low high)
 inner_lays false x s n rest others low high later = ⊎_elim
     (λ lt. has_before (Lays (first_of n)) (section_places s x) (others (s + 1)) (section_lays s n x (omega (arith, low, lt))))
-    (λ le. has_behind (Lays (first_of n)) (section_places s x) (others (s + 1)) (later (s + 1) le (omega (arith, high))))
+    (λ le. has_after (Lays (first_of n)) (section_places s x) (others (s + 1)) (later (s + 1) le (omega (arith, high))))
     (cases_lt n (s + 1))
 
 sections_lay : (sts : List Statement) (s n : ℕ) → s ≤ n → n < s + length (statement_sections sts) → Has (Lays (first_of n)) (all_places s sts)
@@ -138,7 +138,7 @@ sections_lay (Inner (inner.SetLocation l) ∷ sts) s n low high = inr (sections_
 sections_lay (Inner (inner.SymbolAssignment a) ∷ sts) s n low high = inr (sections_lay sts s n low high)
 sections_lay (Inner (inner.Provide d) ∷ sts) s n low high = inr (sections_lay sts s n low high)
 sections_lay (Inner (inner.Assert c) ∷ sts) s n low high = inr (sections_lay sts s n low high)
-sections_lay (Outer c ∷ sts) s n low high = has_behind (Lays (first_of n)) _ (all_places s sts) (sections_lay sts s n low high)
+sections_lay (Outer c ∷ sts) s n low high = has_after (Lays (first_of n)) _ (all_places s sts) (sections_lay sts s n low high)
 
 orphans_lay : (xs : List Name) (s n : ℕ) → s ≤ n → n < s + length xs → Has (Lays (first_of n)) (orphan_places s xs)
 orphans_lay [] s n low high = absurd (omega (arith, low, high))
@@ -154,7 +154,7 @@ module _ (t : LinkerScript) (inputs : InputTable) where
   numbered_lays : (s : ℕ) → s < length (sections_of t) + length (orphans_of t inputs) → HasPlace (first_of s)
   numbered_lays s high = ⊎_elim
       (λ lt. has_before (Lays (first_of s)) (script_places t) (orphan_places (length (sections_of t)) (orphans_of t inputs)) (sections_lay (statements_of t) 0 s (omega arith) (omega (arith, lt))))
-      (λ le. has_behind (Lays (first_of s)) (script_places t) (orphan_places (length (sections_of t)) (orphans_of t inputs)) (orphans_lay (orphans_of t inputs) (length (sections_of t)) s le high))
+      (λ le. has_after (Lays (first_of s)) (script_places t) (orphan_places (length (sections_of t)) (orphans_of t inputs)) (orphans_lay (orphans_of t inputs) (length (sections_of t)) s le high))
       (cases_lt s (length (sections_of t)))
 
   named_lays : (x : Name) (s : ℕ) → number_of x (section_names t inputs) ≡ Some s → HasPlace (first_of s)

@@ -150,22 +150,22 @@ module _ (scope : Scope) (order : Chunk → List ChunkRow) where
   collected_grows None st next e = nothing_grows st next e
   collected_grows (Some q) st next e = chunk_grows (order q) st next e
 
-  line_grows : (i : ℕ) (p : Place) (st next : State) → step scope order i p st ≡ Ok next → Grows st next
+  step_grows : (i : ℕ) (p : Place) (st next : State) → step scope order i p st ≡ Ok next → Grows st next
   unfolding step
-  line_grows i (SetLocation e) st next goes =
+  step_grows i (SetLocation e) st next goes =
       let set = location_sets i e st next goes in
       record { known = set.grown; locations = (record { statement = i; address = set.address } ∷ [], set.listed) }
-  line_grows i (Within task) st next goes = pass_grows i st.counter st next goes
-  line_grows i (Outside task) st next goes = pass_grows i 0 st next goes
-  line_grows i (Open s) st next goes = open_grows s _ st next goes
-  line_grows i (Collect q m) st next goes = collected_grows q st next goes
-  line_grows i (Rows q) st next goes = chunk_grows (order q) st next goes
-  line_grows i (Close s rest) st next goes = rest_grows s rest st next goes
-  line_grows i Idle st next goes = nothing_grows st next goes
+  step_grows i (Within task) st next goes = pass_grows i st.counter st next goes
+  step_grows i (Outside task) st next goes = pass_grows i 0 st next goes
+  step_grows i (Open s) st next goes = open_grows s _ st next goes
+  step_grows i (Collect q m) st next goes = collected_grows q st next goes
+  step_grows i (Rows q) st next goes = chunk_grows (order q) st next goes
+  step_grows i (Close s rest) st next goes = rest_grows s rest st next goes
+  step_grows i Idle st next goes = nothing_grows st next goes
 
-  set_line : (i : ℕ) (e : Expression) (st next : State) → step scope order i (SetLocation e) st ≡ Ok next → Set i e st next
+  set_step : (i : ℕ) (e : Expression) (st next : State) → step scope order i (SetLocation e) st ≡ Ok next → Set i e st next
   unfolding step
-  set_line i e st next goes = location_sets i e st next goes
+  set_step i e st next goes = location_sets i e st next goes
 
   module _ (places : List Place) (k : ℕ) (state : State) (s : Stands scope order places k state) where
     -- so many places on
@@ -175,7 +175,7 @@ module _ (scope : Scope) (order : Chunk → List ChunkRow) where
         let found = place_at places (i + n) (omega (arith, low, s.within)) in
         let goes = s.each (i + n) found.0 (omega (arith, low)) found.1 in
         let z : i + suc n ≡ i + n + 1 = omega arith in
-        rw z (grows_on (s.before i) (s.before (i + n)) (s.before (i + n + 1)) (later n i (omega (arith, low))) (line_grows (i + n) found.0 (s.before (i + n)) (s.before (i + n + 1)) goes))
+        rw z (grows_on (s.before i) (s.before (i + n)) (s.before (i + n + 1)) (later n i (omega (arith, low))) (step_grows (i + n) found.0 (s.before (i + n)) (s.before (i + n + 1)) goes))
 
     pub to_end : (i : ℕ) → i ≤ k → Grows (s.before i) state
     to_end i low =
@@ -203,7 +203,7 @@ locations_hold script t inputs state f i e there =
     let scope = scope_of script t inputs in
     let places = places_of t inputs in
     let low : i < length places = slice_get_within places i (SetLocation e) there in
-    let set = set_line scope f.order i e (f.stands.before i) (f.stands.before (i + 1)) (f.stands.each i (SetLocation e) low there) in
+    let set = set_step scope f.order i e (f.stands.before i) (f.stands.before (i + 1)) (f.stands.each i (SetLocation e) low there) in
     let on = to_end scope f.order places (length places) state f.stands (i + 1) (omega (arith, low)) in
     record {
       address = set.address;

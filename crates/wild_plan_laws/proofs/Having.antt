@@ -14,9 +14,9 @@ module _ {X : Type 0} (P : X → Type 0) where
   has_before (x ∷ xs) ys (inl h) = inl h
   has_before (x ∷ xs) ys (inr h) = inr (has_before xs ys h)
 
-  pub has_behind : (xs ys : List X) → Has P ys → Has P (xs ++ ys)
-  has_behind [] ys h = h
-  has_behind (x ∷ xs) ys h = inr (has_behind xs ys h)
+  pub has_after : (xs ys : List X) → Has P ys → Has P (xs ++ ys)
+  has_after [] ys h = h
+  has_after (x ∷ xs) ys h = inr (has_after xs ys h)
 
   pub has_either : (xs ys : List X) → Has P (xs ++ ys) → Has P xs ⊎ Has P ys
   has_either [] ys h = inr h

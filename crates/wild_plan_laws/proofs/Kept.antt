@@ -134,16 +134,16 @@ module _ (r : ℕ) (q : Chunk) where
         address_stays first.0 next r (alone_grows scope order s first.0 next first.2) (ordered_addressed own st first.0 (cc) first.1)
 
     -- the place that lays out the chunk of the row
-    line_addressed : (i : ℕ) (p : Place) (st next : State) → Lays q p → step scope order i p st ≡ Ok next → HasAddress next.known r
+    step_addressed : (i : ℕ) (p : Place) (st next : State) → Lays q p → step scope order i p st ≡ Ok next → HasAddress next.known r
     unfolding step
-    line_addressed i (SetLocation e) st next lays goes = absurd lays
-    line_addressed i (Within task) st next lays goes = absurd lays
-    line_addressed i (Outside task) st next lays goes = absurd lays
-    line_addressed i (Open s) st next lays goes = absurd lays
-    line_addressed i (Collect o m) st next lays goes = collected_addressed o st next lays goes
-    line_addressed i (Rows own) st next lays goes = ordered_addressed own st next lays goes
-    line_addressed i (Close s rest) st next lays goes = closed_addressed s rest st next lays goes
-    line_addressed i Idle st next lays goes = absurd lays
+    step_addressed i (SetLocation e) st next lays goes = absurd lays
+    step_addressed i (Within task) st next lays goes = absurd lays
+    step_addressed i (Outside task) st next lays goes = absurd lays
+    step_addressed i (Open s) st next lays goes = absurd lays
+    step_addressed i (Collect o m) st next lays goes = collected_addressed o st next lays goes
+    step_addressed i (Rows own) st next lays goes = ordered_addressed own st next lays goes
+    step_addressed i (Close s rest) st next lays goes = closed_addressed s rest st next lays goes
+    step_addressed i Idle st next lays goes = absurd lays
 
     stand_addressed : (places : List Place) (state : State) → Stands scope order places (length places) state → Has (Lays q) places → HasAddress state.known r
     stand_addressed places state s h =
@@ -152,7 +152,7 @@ module _ (r : ℕ) (q : Chunk) where
         let goes = s.each found.0 found.1 low found.2 in
         address_stays (s.before (found.0 + 1)) state r
         (to_end scope order places (length places) state s (found.0 + 1) (omega (arith, low)))
-        (line_addressed found.0 found.1 (s.before found.0) (s.before (found.0 + 1)) found.3 goes)
+        (step_addressed found.0 found.1 (s.before found.0) (s.before (found.0 + 1)) found.3 goes)
 
 pub kept_rows_have_addresses : (script : Bytes) (t : LinkerScript) (inputs : InputTable) (state : State) → IsLaid script t inputs state
     → (r : ℕ) (k : Kept) → slice_get (fates_of t inputs) r ≡ Some (Some k) → HasAddress state.known r

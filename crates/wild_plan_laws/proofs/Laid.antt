@@ -13,7 +13,8 @@ use Rattle.wild_plan_spec.specs.declared.chunk.Kept.{Kept}
 use Rattle.wild_plan_spec.specs.declared.placed.PlacedLocation.{PlacedLocation}
 use Rattle.wild_plan_spec.specs.declared.row.InputRow.{InputRow}
 use Rattle.wild_plan_spec.specs.Chunks.{largest}
-use Rattle.wild_plan_spec.specs.Steps.{State, up, row_placed, rows_placed, chunk_placed, section_opened, shares, lower, sharing, section_ended, section_closed_by, section_ended_alone}
+use Rattle.wild_plan_spec.specs.Steps.{State, up, row_placed, rows_placed, chunk_placed, section_opened, section_ended, section_closed_by, section_ended_alone}
+use Rattle.wild_plan_spec.specs.Overlaps.{shares, lower_section, lowest_sharing}
 use Rattle.wild_plan_laws.specs.Holding.{RowHolds, SectionHolds, LaidSectionStands, Spans}
 use Rattle.wild_plan_laws.proofs.Chunked.{IsRow, IsRowOf}
 use Rattle.wild_plan_laws.proofs.Growing.{bind_ok, grown_entry}
@@ -81,9 +82,9 @@ held_before known more s alignment x part h holds =
     let to = holds.to in
     record { start = h.start; end = h.end; spans = h.spans; from = omega (arith, start, from); to = omega (arith, end, to) }
 
--- ---- sharing
+-- ---- lowest_sharing
 
-lower_none : (known : Known) (o p : Option ℕ) → lower known o p ≡ None → (o ≡ None) × (p ≡ None)
+lower_none : (known : Known) (o p : Option ℕ) → lower_section known o p ≡ None → (o ≡ None) × (p ≡ None)
 lower_none known None p e = (refl, e)
 lower_none known (Some s) None e = absurd (cc)
 lower_none known (Some s) (Some u) e = absurd (either_some _ u s e)
@@ -96,10 +97,10 @@ not_some : (b : Bool) (n : ℕ) → ◌≡◌ {A = Option ℕ} (cond b (Some n) 
 not_some true n e = absurd (cc)
 not_some false n e = refl
 
-none_shares : (known : Known) (start end n u : ℕ) → sharing known start end n ≡ None → u < n → shares known start end u ≡ false
+none_shares : (known : Known) (start end n u : ℕ) → lowest_sharing known start end n ≡ None → u < n → shares known start end u ≡ false
 none_shares known start end zero u e low = absurd (omega (arith, low))
 none_shares known start end (suc n) u e low =
-    let both = lower_none known (sharing known start end n) (cond (shares known start end n) (Some n) None) e in
+    let both = lower_none known (lowest_sharing known start end n) (cond (shares known start end n) (Some n) None) e in
     ⊎_elim
     (λ lt. none_shares known start end n u both.0 lt)
     (λ le. let same : n ≡ u = omega (arith, low, le) in subst (λ (m : ℕ). shares known start end m ≡ false) same (not_some (shares known start end n) n both.1))
@@ -189,7 +190,7 @@ module _ (scope : Scope) (rows : List InputRow) (fates : List (Option Kept)) whe
   -- ---- what holds between sections, and in them
 
   -- the first n sections stand, with their rows
-  pub record Behind (n : ℕ) (known : Known) : Type 0 where
+  pub record After (n : ℕ) (known : Known) : Type 0 where
     pub stand : AllStand n known
     pub fresh : (s : ℕ) → n ≤ s → IsFresh known s
     pub lie : (r a : ℕ) → known (Address r) ≡ Some a → LiesBelow n known r a
@@ -211,8 +212,8 @@ module _ (scope : Scope) (rows : List InputRow) (fates : List (Option Kept)) whe
     pub sections_apart : SectionsApart s st.known
     pub rows_apart : RowsApart st.known
 
-  pub nothing_behind : Behind 0 nothing
-  nothing_behind = record {
+  pub nothing_after : After 0 nothing
+  nothing_after = record {
     stand = λ s low. absurd (omega (arith, low));
     fresh = λ s low. record { starts = refl; loads = refl; ends = refl };
     lie = λ r a e. absurd (cc);
@@ -220,8 +221,8 @@ module _ (scope : Scope) (rows : List InputRow) (fates : List (Option Kept)) whe
     rows_apart = λ s p r x f g h. let placed = h.placed in absurd (cc);
   }
 
-  pub behind_alike : (n : ℕ) (known more : Known) → Alike known more → Behind n known → Behind n more
-  behind_alike n known more alike h =
+  pub after_alike : (n : ℕ) (known more : Known) → Alike known more → After n known → After n more
+  after_alike n known more alike h =
       let part = alike.part in
       record {
         stand = λ s low. stands_grow known more s (scope.alignment s) part (h.stand s low);
@@ -237,7 +238,7 @@ module _ (scope : Scope) (rows : List InputRow) (fates : List (Option Kept)) whe
 
   -- ---- a section starts
 
-  module _ (s n : ℕ) (known : Known) (h : Behind s known) where
+  module _ (s n : ℕ) (known : Known) (h : After s known) where
     abbrev started : Known
     started = with_number (Load s) n (with_number (Start s) n known)
 
@@ -276,7 +277,7 @@ module _ (scope : Scope) (rows : List InputRow) (fates : List (Option Kept)) whe
           rows_apart = rows_apart_still known started (λ r a e. sym (started_same (Address r) refl refl) ∙ e) h.rows_apart;
         }
 
-  pub opens_amid : (s : ℕ) (st next : State) → Behind s st.known → section_opened s (scope.alignment s) st ≡ Ok next → Amid s next
+  pub opens_amid : (s : ℕ) (st next : State) → After s st.known → section_opened s (scope.alignment s) st ≡ Ok next → Amid s next
   unfolding section_opened
   opens_amid s st next h e =
       let first = bind_ok (up st.counter (scope.alignment s)) _ next e in
@@ -489,8 +490,8 @@ module _ (scope : Scope) (rows : List InputRow) (fates : List (Option Kept)) whe
     same_rows : (r a : ℕ) → finished (Address r) ≡ Some a → st.known (Address r) ≡ Some a
     same_rows r a e = sym (other_entry (End s) st.cursor st.known (Address r) refl) ∙ e
 
-    finished_behind : Behind (s + 1) finished
-    finished_behind = record {
+    finished_after : After (s + 1) finished
+    finished_after = record {
       stand = finished_stand;
       fresh = finished_fresh;
       lie = λ r a e. ⊎_elim
@@ -501,16 +502,16 @@ module _ (scope : Scope) (rows : List InputRow) (fates : List (Option Kept)) whe
       rows_apart = rows_apart_still st.known finished same_rows h.rows_apart;
     }
 
-  closed_behind : (s : ℕ) (o : Option ℕ) (st next : State) → (h : Amid s st) → sharing st.known h.start st.cursor s ≡ o → section_closed_by scope s o st ≡ Ok next → Behind (s + 1) next.known
+  closed_after : (s : ℕ) (o : Option ℕ) (st next : State) → (h : Amid s st) → lowest_sharing st.known h.start st.cursor s ≡ o → section_closed_by scope s o st ≡ Ok next → After (s + 1) next.known
   unfolding section_ended
-  closed_behind s None st next h none e =
+  closed_after s None st next h none e =
       let alone = λ (u : ℕ) (low : u < s). none_shares st.known h.start st.cursor s u none low in
       let same : record st { counter = st.cursor; known = finished s st h alone } ≡ next = cc in
-      subst (λ (u : State). Behind (s + 1) u.known) same (finished_behind s st h alone)
-  closed_behind s (Some other) st next h some e = absurd (cc)
+      subst (λ (u : State). After (s + 1) u.known) same (finished_after s st h alone)
+  closed_after s (Some other) st next h some e = absurd (cc)
 
-  pub ends_behind : (s : ℕ) (st next : State) → Amid s st → section_ended_alone scope s st ≡ Ok next → Behind (s + 1) next.known
+  pub ends_after : (s : ℕ) (st next : State) → Amid s st → section_ended_alone scope s st ≡ Ok next → After (s + 1) next.known
   unfolding section_ended_alone
-  ends_behind s st next h e =
+  ends_after s st next h e =
       let start = known_number st.known (Start s) h.start h.starts in
-      closed_behind s _ st next h (ap (λ (n : ℕ). sharing st.known n st.cursor s) (sym start)) e
+      closed_after s _ st next h (ap (λ (n : ℕ). lowest_sharing st.known n st.cursor s) (sym start)) e

@@ -20,7 +20,8 @@ use Rattle.wild_plan_spec.specs.Chunks.{section_rows}
 use Rattle.wild_plan_spec.specs.Definitions.{row_chunk, symbol_chunk}
 use Rattle.wild_plan_spec.specs.Fates.{fates_of, section_names}
 use Rattle.wild_plan_spec.specs.Fit.{IsLaid, IsPlan}
-use Rattle.wild_plan_spec.specs.Layout.{Layout, placed_section, placed_sections, placed_input, placed_inputs, table_symbol, table_symbols}
+use Rattle.wild_plan_spec.specs.Layout.{Layout, placed_section, placed_sections, placed_input, placed_inputs}
+use Rattle.wild_plan_spec.specs.Symbols.{table_symbol, table_symbols}
 use Rattle.wild_plan_spec.specs.Steps.{State}
 use Rattle.wild_plan_spec.specs.Names.{Name}
 use Rattle.wild_plan_spec.specs.Orphans.{places_of}
@@ -29,7 +30,7 @@ use Rattle.wild_plan_laws.specs.Holding as holding
 use Rattle.wild_plan_laws.specs.Listing.{Covers, Lists, LocationHolds, RowStands, SectionStands, SymbolStands}
 use Rattle.wild_plan_laws.proofs.Apart.{sections_stand, rows_lie_in_sections, starts_below, sections_do_not_overlap, rows_do_not_overlap}
 use Rattle.wild_plan_laws.proofs.Growing.{locations_hold}
-use Rattle.wild_plan_laws.proofs.Having.{Has, has_before, has_behind, has_there}
+use Rattle.wild_plan_laws.proofs.Having.{Has, has_before, has_after, has_there}
 use Rattle.wild_plan_laws.proofs.Kept.{kept_rows_have_addresses}
 use Rattle.wild_plan_laws.proofs.Laid.{known_number}
 use Rattle.wild_plan_laws.proofs.Offsets.{symbols_stand_in_rows}
@@ -95,7 +96,7 @@ module _ (known : Known) (fates : List (Option Kept)) where
       (subst (λ (o : Option Chunk). Has (IsSymbol symbol k.chunk.«section») (table_symbol known first o)) (sym chunk)
       (inl (ap (λ (s : SymbolRow). record { name = s.name; address = (number_at known (Address s.row) + s.offset) % 2 ^ 64; «section» = Some k.chunk.«section»; hidden = false }) (sym same))))
   symbol_listed (first ∷ symbols) (suc i) symbol k there e =
-      has_behind (IsSymbol symbol k.chunk.«section») (table_symbol known first (symbol_chunk fates first)) (table_symbols known fates symbols) (symbol_listed symbols i symbol k there e)
+      has_after (IsSymbol symbol k.chunk.«section») (table_symbol known first (symbol_chunk fates first)) (table_symbols known fates symbols) (symbol_listed symbols i symbol k there e)
 
 -- ---- layouts
 

@@ -90,7 +90,7 @@ module _ (rows : List InputRow) (fates : List (Option Kept)) where
       })
       (entry_by (known (Address r)) (c.row == r) cursor a at)
 
-  -- a row and the cursor behind it
+  -- a row and the cursor after it
   record Stepped (c : ChunkRow) (next : State) : Type 0 where
     known : InPlace next.known
     cursor : IsMultiple next.cursor c.alignment.0

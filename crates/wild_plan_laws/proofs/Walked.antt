@@ -92,43 +92,43 @@ module _ (scope : Scope) (order : Chunk → List ChunkRow) where
   done_same : (st next : State) → done st ≡ Ok next → st ≡ next
   done_same st next e = cc
 
-  set_line : (i : ℕ) (e : Expression) (st next : State) → step scope order i (SetLocation e) st ≡ Ok next → Alike st.known next.known
+  set_step : (i : ℕ) (e : Expression) (st next : State) → step scope order i (SetLocation e) st ≡ Ok next → Alike st.known next.known
   unfolding step
-  set_line i e st next goes = location_alike i e st next goes
+  set_step i e st next goes = location_alike i e st next goes
 
-  within_line : (i : ℕ) (task : Task) (st next : State) → step scope order i (Within task) st ≡ Ok next → Alike st.known next.known
+  within_step : (i : ℕ) (task : Task) (st next : State) → step scope order i (Within task) st ≡ Ok next → Alike st.known next.known
   unfolding step
-  within_line i task st next goes = pass_alike i st.counter st next goes
+  within_step i task st next goes = pass_alike i st.counter st next goes
 
-  outside_line : (i : ℕ) (task : Task) (st next : State) → step scope order i (Outside task) st ≡ Ok next → Alike st.known next.known
+  outside_step : (i : ℕ) (task : Task) (st next : State) → step scope order i (Outside task) st ≡ Ok next → Alike st.known next.known
   unfolding step
-  outside_line i task st next goes = pass_alike i 0 st next goes
+  outside_step i task st next goes = pass_alike i 0 st next goes
 
-  idle_line : (i : ℕ) (st next : State) → step scope order i Idle st ≡ Ok next → st ≡ next
+  idle_step : (i : ℕ) (st next : State) → step scope order i Idle st ≡ Ok next → st ≡ next
   unfolding step
-  idle_line i st next goes = done_same st next goes
+  idle_step i st next goes = done_same st next goes
 
-  discards_line : (i : ℕ) (m : Matcher) (st next : State) → step scope order i (Collect None m) st ≡ Ok next → st ≡ next
+  discards_step : (i : ℕ) (m : Matcher) (st next : State) → step scope order i (Collect None m) st ≡ Ok next → st ≡ next
   unfolding step chunk_collected
-  discards_line i m st next goes = done_same st next goes
+  discards_step i m st next goes = done_same st next goes
 
   -- ---- lines of sections
 
-  open_line : (i s : ℕ) (st next : State) → step scope order i (Open s) st ≡ Ok next → section_opened s (scope.alignment s) st ≡ Ok next
+  open_step : (i s : ℕ) (st next : State) → step scope order i (Open s) st ≡ Ok next → section_opened s (scope.alignment s) st ≡ Ok next
   unfolding step
-  open_line i s st next goes = goes
+  open_step i s st next goes = goes
 
-  collect_line : (i : ℕ) (q : Chunk) (m : Matcher) (st next : State) → step scope order i (Collect (Some q) m) st ≡ Ok next → chunk_placed (order q) st ≡ Ok next
+  collect_step : (i : ℕ) (q : Chunk) (m : Matcher) (st next : State) → step scope order i (Collect (Some q) m) st ≡ Ok next → chunk_placed (order q) st ≡ Ok next
   unfolding step chunk_collected
-  collect_line i q m st next goes = goes
+  collect_step i q m st next goes = goes
 
-  rows_line : (i : ℕ) (q : Chunk) (st next : State) → step scope order i (Rows q) st ≡ Ok next → chunk_placed (order q) st ≡ Ok next
+  rows_step : (i : ℕ) (q : Chunk) (st next : State) → step scope order i (Rows q) st ≡ Ok next → chunk_placed (order q) st ≡ Ok next
   unfolding step
-  rows_line i q st next goes = goes
+  rows_step i q st next goes = goes
 
-  close_line : (i s : ℕ) (rest : Option Chunk) (st next : State) → step scope order i (Close s rest) st ≡ Ok next → section_closed scope order s rest st ≡ Ok next
+  close_step : (i s : ℕ) (rest : Option Chunk) (st next : State) → step scope order i (Close s rest) st ≡ Ok next → section_closed scope order s rest st ≡ Ok next
   unfolding step
-  close_line i s rest st next goes = goes
+  close_step i s rest st next goes = goes
 
   -- P n holds where sections with numbers below n stand, and Q s within section s
   module _ (P : ℕ → Known → Type 0) (Q : ℕ → State → Type 0)
@@ -151,7 +151,7 @@ module _ (scope : Scope) (order : Chunk → List ChunkRow) where
     contents_walk s number i [] st next h l = subst (Q s) l h
     contents_walk s number i (OfMatcher m ∷ cs) st next h l =
         contents_walk s (number + 1) (i + 1) cs l.0 next
-        (places_chunk (record { «section» = s; number = number }) st l.0 h (collect_line i (record { «section» = s; number = number }) m st l.0 l.1)) l.2
+        (places_chunk (record { «section» = s; number = number }) st l.0 h (collect_step i (record { «section» = s; number = number }) m st l.0 l.1)) l.2
 
     rest_own : (s : ℕ) (cs : List ContentsCommand) (q : Chunk) → rest_chunk s cs ≡ Some q → q.«section» ≡ s
     rest_own s [] q e = let same : record { «section» = s; number = 0 } ≡ q = cc in ap (λ (c : Chunk). c.«section») (sym same)
@@ -159,24 +159,24 @@ module _ (scope : Scope) (order : Chunk → List ChunkRow) where
 
     section_walk : (s i : ℕ) (x : Section) (st next : State) → P s st.known → Leads i (section_places s x) st next → P (s + 1) next.known
     section_walk s i x st next h l =
-        let first = opens s st l.0 h (open_line i s st l.0 l.1) in
+        let first = opens s st l.0 h (open_step i s st l.0 l.1) in
         let parts = leads_over (contents_places s 0 x.commands) (Close s (rest_chunk s x.commands) ∷ []) (i + 1) l.0 next l.2 in
         let chunk_collected = contents_walk s 0 (i + 1) x.commands l.0 parts.0 first parts.1 in
         let last = parts.2 in
-        let goes = close_line last.0 s (rest_chunk s x.commands) parts.0 last.1.0 last.1.1 in
+        let goes = close_step last.0 s (rest_chunk s x.commands) parts.0 last.1.0 last.1.1 in
         subst (λ (u : State). P (s + 1) u.known) last.1.2 (close_walk s parts.0 last.1.0 (rest_chunk s x.commands) (rest_own s x.commands) chunk_collected goes)
 
     -- ---- statements
 
     discarding_walk : (i : ℕ) (cs : List ContentsCommand) (st next : State) → Leads i (discarding_places cs) st next → st ≡ next
     discarding_walk i [] st next l = l
-    discarding_walk i (OfMatcher m ∷ cs) st next l = discards_line i m st l.0 l.1 ∙ discarding_walk (i + 1) cs l.0 next l.2
+    discarding_walk i (OfMatcher m ∷ cs) st next l = discards_step i m st l.0 l.1 ∙ discarding_walk (i + 1) cs l.0 next l.2
 
     discard_walk : (i : ℕ) (x : Section) (st next : State) → Leads i (discard_places x) st next → st ≡ next
     discard_walk i x st next l =
         let parts = leads_over (discarding_places x.commands) (Idle ∷ []) (i + 1) l.0 next l.2 in
         let last = parts.2 in
-        idle_line i st l.0 l.1 ∙ discarding_walk (i + 1) x.commands l.0 parts.0 parts.1 ∙ idle_line last.0 parts.0 last.1.0 last.1.1 ∙ last.1.2
+        idle_step i st l.0 l.1 ∙ discarding_walk (i + 1) x.commands l.0 parts.0 parts.1 ∙ idle_step last.0 parts.0 last.1.0 last.1.1 ∙ last.1.2
 
     section_or_discard : (b : Bool) (s i : ℕ) (x : Section) (st next : State) → P s st.known → Leads i (cond b (discard_places x) (section_places s x)) st next → P (cond b s (s + 1)) next.known
     section_or_discard true s i x st next h l = subst (λ (u : State). P s u.known) (discard_walk i x st next l) h
@@ -187,17 +187,17 @@ module _ (scope : Scope) (order : Chunk → List ChunkRow) where
 
     statement_walk : (s i : ℕ) (x : Statement) (st next : State) → P s st.known → Leads i (statement_places s x) st next → P (next_section s x) next.known
     statement_walk s i (Inner (inner.Section x)) st next h l = section_or_discard (is_discard x) s i x st next h l
-    statement_walk s i (Inner (inner.SetLocation a)) st next h l = one_walk s i _ st next (set_line i a.address st) h l
-    statement_walk s i (Inner (inner.SymbolAssignment a)) st next h l = one_walk s i _ st next (within_line i _ st) h l
-    statement_walk s i (Inner (inner.Provide d)) st next h l = one_walk s i _ st next (within_line i _ st) h l
-    statement_walk s i (Inner (inner.Assert c)) st next h l = one_walk s i _ st next (within_line i _ st) h l
-    statement_walk s i (Outer (command.SymbolDefinition name value)) st next h l = one_walk s i _ st next (outside_line i _ st) h l
-    statement_walk s i (Outer (command.SetLocation a)) st next h l = one_walk s i _ st next (outside_line i _ st) h l
-    statement_walk s i (Outer (command.Provide d)) st next h l = one_walk s i _ st next (outside_line i _ st) h l
-    statement_walk s i (Outer (command.Assert c)) st next h l = one_walk s i _ st next (outside_line i _ st) h l
+    statement_walk s i (Inner (inner.SetLocation a)) st next h l = one_walk s i _ st next (set_step i a.address st) h l
+    statement_walk s i (Inner (inner.SymbolAssignment a)) st next h l = one_walk s i _ st next (within_step i _ st) h l
+    statement_walk s i (Inner (inner.Provide d)) st next h l = one_walk s i _ st next (within_step i _ st) h l
+    statement_walk s i (Inner (inner.Assert c)) st next h l = one_walk s i _ st next (within_step i _ st) h l
+    statement_walk s i (Outer (command.SymbolDefinition name value)) st next h l = one_walk s i _ st next (outside_step i _ st) h l
+    statement_walk s i (Outer (command.SetLocation a)) st next h l = one_walk s i _ st next (outside_step i _ st) h l
+    statement_walk s i (Outer (command.Provide d)) st next h l = one_walk s i _ st next (outside_step i _ st) h l
+    statement_walk s i (Outer (command.Assert c)) st next h l = one_walk s i _ st next (outside_step i _ st) h l
     statement_walk s i (Outer (command.Sections c)) st next h l = subst (λ (u : State). P s u.known) l h
 
-    -- the number of the next section behind all statements
+    -- the number of the next section after all statements
     abbrev last_section : ℕ → List Statement → ℕ
     last_section s [] = s
     last_section s (x ∷ xs) = last_section (next_section s x) xs
@@ -232,9 +232,9 @@ module _ (scope : Scope) (order : Chunk → List ChunkRow) where
     orphans_walk s i (x ∷ xs) st next h l =
         let second = l.2 in
         let third = second.2 in
-        let starts = opens s st l.0 h (open_line i s st l.0 l.1) in
-        let full = places_chunk (record { «section» = s; number = 0 }) l.0 second.0 starts (rows_line (i + 1) (record { «section» = s; number = 0 }) l.0 second.0 second.1) in
-        let end = close_walk s second.0 third.0 None (λ q e. absurd (cc)) full (close_line (i + 1 + 1) s None second.0 third.0 third.1) in
+        let starts = opens s st l.0 h (open_step i s st l.0 l.1) in
+        let full = places_chunk (record { «section» = s; number = 0 }) l.0 second.0 starts (rows_step (i + 1) (record { «section» = s; number = 0 }) l.0 second.0 second.1) in
+        let end = close_walk s second.0 third.0 None (λ q e. absurd (cc)) full (close_step (i + 1 + 1) s None second.0 third.0 third.1) in
         let z : s + 1 + length xs ≡ s + suc (length xs) = omega arith in
         subst (λ (n : ℕ). P n next.known) z (orphans_walk (s + 1) (i + 1 + 1 + 1) xs third.0 next end third.2)
 

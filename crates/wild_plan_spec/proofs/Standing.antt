@@ -67,7 +67,7 @@ module _ (scope : Scope) (rows : Chunk → List ChunkRow) (places : List Place) 
   pub stands_once : (k : ℕ) (state other : State) → Stands scope rows places k state → Stands scope rows places k other → state ≡ other
   stands_once k state other s t = sym s.last ∙ agree k k state other s t k (omega arith) (omega arith) ∙ t.last
 
-  -- behind a refused place nothing stands
+  -- after a refused place nothing stands
   beyond : (fault : Fault) (k : ℕ) (state : State) → (f : Refuses scope rows places fault) → Stands scope rows places k state → f.place < k → ⊥
   beyond fault k state f s h =
       let same : s.before f.place ≡ f.state = agree k f.place state f.state s f.below f.place (omega arith) (omega arith) ∙ f.below.last in

@@ -12,7 +12,7 @@ use Rattle.wild_plan_spec.specs.Scopes.{scope_of}
 use Rattle.wild_plan_spec.specs.Orphans.{places_of}
 use Rattle.wild_plan_spec.specs.Steps.{State}
 use Rattle.wild_plan_spec.specs.Walk.{Stands, Refuses}
-use Rattle.wild_plan_spec.specs.End.{finished}
+use Rattle.wild_plan_spec.specs.End.{final_symbols}
 use Rattle.wild_plan_spec.specs.Layout.{Layout, layout}
 use Rattle.wild_plan_spec.specs.Fit.{AreOrdered, IsLaid, Fits, LayoutFault, EndFault, FaultIn}
 use Rattle.wild_plan_spec.proofs.RowOrder.{rows_once}
@@ -23,16 +23,16 @@ module _ (script : Bytes) (t : LinkerScript) (inputs : InputTable) where
   orders_once : (f g : Chunk → List ChunkRow) → AreOrdered script t inputs f → AreOrdered script t inputs g → f ≡ g
   orders_once f g p q = fun_ext (λ c. rows_once _ _ _ (p c) (q c))
 
-  -- what stands behind the last place is one
+  -- what stands after the last place is one
   laid_once : (r s : State) → IsLaid script t inputs r → IsLaid script t inputs s → r ≡ s
   laid_once r s f g =
       let same = orders_once f.order g.order f.ordered g.ordered in
       let stands = subst (λ (o : Chunk → List ChunkRow). Stands (scope_of script t inputs) o (places_of t inputs) (length (places_of t inputs)) r) same f.stands in
       stands_once (scope_of script t inputs) g.order (places_of t inputs) (length (places_of t inputs)) r s stands g.stands
 
-  found_once : (r s : State) (xs ys : List PlacedSymbol) → r ≡ s → finished (scope_of script t inputs) r.known (places_of t inputs) ≡ Ok xs → finished (scope_of script t inputs) s.known (places_of t inputs) ≡ Ok ys → xs ≡ ys
+  found_once : (r s : State) (xs ys : List PlacedSymbol) → r ≡ s → final_symbols (scope_of script t inputs) r.known (places_of t inputs) ≡ Ok xs → final_symbols (scope_of script t inputs) s.known (places_of t inputs) ≡ Ok ys → xs ≡ ys
   found_once r s xs ys same f g =
-      let both : Ok xs ≡ Ok ys = sym f ∙ ap (λ (u : State). finished (scope_of script t inputs) u.known (places_of t inputs)) same ∙ g in
+      let both : Ok xs ≡ Ok ys = sym f ∙ ap (λ (u : State). final_symbols (scope_of script t inputs) u.known (places_of t inputs)) same ∙ g in
       cc
 
   pub plans_once : (p q : Layout) → Fits script t inputs p → Fits script t inputs q → q ≡ p
@@ -50,7 +50,7 @@ module _ (script : Bytes) (t : LinkerScript) (inputs : InputTable) where
   ends_or_fits : (p : Layout) (fault : Fault) → Fits script t inputs p → EndFault script t inputs fault → ⊥
   ends_or_fits p fault f g =
       let states = laid_once f.state g.state f.laid g.laid in
-      let both : Ok f.found ≡ Err fault = sym f.finishes ∙ ap (λ (u : State). finished (scope_of script t inputs) u.known (places_of t inputs)) states ∙ g.refused in
+      let both : Ok f.found ≡ Err fault = sym f.finishes ∙ ap (λ (u : State). final_symbols (scope_of script t inputs) u.known (places_of t inputs)) states ∙ g.refused in
       cc
 
   pub plan_or_fault : (p : Layout) (fault : Fault) → Fits script t inputs p → FaultIn script t inputs fault → ⊥
@@ -67,7 +67,7 @@ module _ (script : Bytes) (t : LinkerScript) (inputs : InputTable) where
   ended_once : (fault other : Fault) → EndFault script t inputs fault → EndFault script t inputs other → other ≡ fault
   ended_once fault other f g =
       let states = laid_once g.state f.state g.laid f.laid in
-      let both : Err other ≡ Err fault = sym g.refused ∙ ap (λ (u : State). finished (scope_of script t inputs) u.known (places_of t inputs)) states ∙ f.refused in
+      let both : Err other ≡ Err fault = sym g.refused ∙ ap (λ (u : State). final_symbols (scope_of script t inputs) u.known (places_of t inputs)) states ∙ f.refused in
       cc
 
   pub faults_once : (fault other : Fault) → FaultIn script t inputs fault → FaultIn script t inputs other → other ≡ fault

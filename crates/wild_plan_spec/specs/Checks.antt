@@ -45,6 +45,7 @@ abbrev pub symbol_checks : List InputRow → ℕ → List SymbolRow → List Che
 symbol_checks rows n [] = []
 symbol_checks rows n (s ∷ ss) = record { holds = holds_offset (slice_get rows s.row) s.offset; fault = BadSymbolRow n } ∷ symbol_checks rows (n + 1) ss
 
+-- the expression of a task, if there is one, is built
 abbrev pub is_task_built : Option Task → Bool
 is_task_built None = true
 is_task_built (Some (Assign name value)) = is_built true value
@@ -59,7 +60,7 @@ is_place_built p = is_task_built (task_of p)
 
 -- ---- places
 
--- a chunk behind k others gets the number k, as long as that is below 2 ^ 32 - 1: rules have ids of 32 bits
+-- a chunk after k others gets the number k, as long as that is below 2 ^ 32 - 1: rules have ids of 32 bits
 abbrev pub chunk_checks : ℕ → Option Chunk → List Check
 chunk_checks k None = []
 chunk_checks k (Some q) = record { holds = nat_lt k (2 ^ 32 - 1); fault = TooManySections k } ∷ []
@@ -73,20 +74,21 @@ file_checks n (Some x) = record { holds = is_ok (files_of (Some x)); fault = Bad
 abbrev pub pattern_check : ℕ → Option Name → SectionPattern → List Check
 pattern_check n file p = file_checks n file ++ record { holds = is_ok (patterns_of p.name); fault = BadPattern n p.name } ∷ []
 
+-- the same for each pattern
 abbrev pub pattern_checks : ℕ → Option Name → List SectionPattern → List Check
 pattern_checks n file [] = []
 pattern_checks n file (p ∷ ps) = pattern_check n file p ++ pattern_checks n file ps
 
--- the matcher of place n, behind k chunks
+-- the matcher of place n, after k chunks
 abbrev pub matcher_checks : ℕ → ℕ → Place → List Check
 matcher_checks n k (Collect q m) = chunk_checks k q ++ pattern_checks n m.input_file_pattern m.input_section_name_patterns
 matcher_checks n k p = []
 
--- what is checked of place n, behind k chunks: its expressions, if it has any, are built
+-- what is checked of place n, after k chunks: its expressions, if it has any, are built
 abbrev pub checks_at : ℕ → ℕ → Place → List Check
 checks_at n k p = matcher_checks n k p ++ record { holds = is_place_built p; fault = Unsupported n } ∷ []
 
--- the first place of the list has the number n, and stands behind k chunks
+-- the first place of the list has the number n, and stands after k chunks
 abbrev pub place_checks : ℕ → ℕ → List Place → List Check
 place_checks n k [] = []
 place_checks n k (p ∷ ps) = checks_at n k p ++ place_checks (n + 1) (next_chunk k p) ps
@@ -99,12 +101,13 @@ name_checks fault earlier [] = []
 name_checks fault earlier (x ∷ xs) = record { holds = not (list_any (is_named x) earlier); fault = fault x } ∷ name_checks fault (earlier ++ x ∷ []) xs
 
 -- it is in memory, and nothing is said of it that is not built yet
-abbrev pub is_plain : InputFlags → Bool
-is_plain flags = is_alloc flags && not (is_nobits flags) && not (is_tls flags)
+abbrev pub are_flags_built : InputFlags → Bool
+are_flags_built flags = is_alloc flags && not (is_nobits flags) && not (is_tls flags)
 
+-- a row that is kept has flags that are built
 abbrev pub is_supported : Option Kept → InputFlags → Bool
 is_supported None flags = true
-is_supported (Some k) flags = is_plain flags
+is_supported (Some k) flags = are_flags_built flags
 
 -- each row that is kept has flags that are built
 abbrev pub support_checks : ℕ → List InputRow → List (Option Kept) → List Check

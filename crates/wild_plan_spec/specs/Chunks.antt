@@ -9,6 +9,7 @@ use Rattle.wild_plan_spec.specs.declared.chunk.Kept.{Kept}
 use Rattle.wild_plan_spec.specs.declared.row.InputRow.{InputRow}
 use Rattle.wild_plan_spec.specs.Names.{Name}
 
+-- of one section, and with one number
 abbrev pub same_chunk : Chunk → Chunk → Bool
 same_chunk a b = (a.«section» == b.«section») && (a.number == b.number)
 
@@ -33,6 +34,7 @@ kept_rows n [] fates = []
 kept_rows n (row ∷ rows) [] = []
 kept_rows n (row ∷ rows) (fate ∷ fates) = cons_option (kept_row n row fate) (kept_rows (n + 1) rows fates)
 
+-- the row is in the chunk
 abbrev pub is_of : Chunk → ChunkRow → Bool
 is_of q row = same_chunk row.chunk q
 
@@ -47,6 +49,7 @@ largest (r ∷ rs) = max r.alignment.0 (largest rs)
 
 -- ---- sections
 
+-- a row with this fate is in section s
 abbrev pub is_in : ℕ → Option Kept → Bool
 is_in s None = false
 is_in s (Some k) = k.chunk.«section» == s

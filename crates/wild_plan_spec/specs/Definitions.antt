@@ -32,6 +32,7 @@ row_chunk (Some (Some k)) = Some k.chunk
 abbrev pub symbol_chunk : List (Option Kept) → SymbolRow → Option Chunk
 symbol_chunk fates symbol = row_chunk (slice_get fates symbol.row)
 
+-- the entry of a symbol of the table, where its row is kept
 abbrev pub table_entry : SymbolRow → Option Chunk → List SymbolEntry
 table_entry symbol None = []
 table_entry symbol (Some chunk) = entry_of symbol.name (OfRow symbol.row symbol.offset chunk.«section»)
@@ -47,6 +48,7 @@ table_entries fates (s ∷ ss) = table_entry s (symbol_chunk fates s) ++ table_e
 abbrev pub point_of : ℕ → Point
 point_of i = record { place = i; «section» = None }
 
+-- the entry of an assignment at place i
 abbrev pub assigned_by : ℕ → Option Task → List SymbolEntry
 assigned_by i (Some (Assign name value)) = entry_of name (OfScript value (point_of i))
 assigned_by i task = []
@@ -56,9 +58,11 @@ abbrev pub assigned_entries : ℕ → List Place → List SymbolEntry
 assigned_entries i [] = []
 assigned_entries i (p ∷ ps) = assigned_by i (task_of p) ++ assigned_entries (i + 1) ps
 
+-- the entry of a PROVIDE at place i
 abbrev pub provide_entry : ℕ → ProvideSymbolDefinition → List SymbolEntry
 provide_entry i d = entry_of d.name (OfScript d.value (point_of i))
 
+-- the same, where the task is one
 abbrev pub provided_by : ℕ → Option Task → List SymbolEntry
 provided_by i (Some (Provide d)) = provide_entry i d
 provided_by i task = []
@@ -78,14 +82,17 @@ firm_entries fates symbols ps = table_entries fates symbols ++ assigned_entries 
 abbrev pub all_entries : List (Option Kept) → List SymbolRow → List Place → List SymbolEntry
 all_entries fates symbols ps = firm_entries fates symbols ps ++ provided_entries 0 ps
 
+-- their names, in order
 abbrev pub entry_names : List SymbolEntry → List Name
 entry_names [] = []
 entry_names (e ∷ es) = e.name ∷ entry_names es
 
+-- what an entry says
 abbrev pub definition_at : Option SymbolEntry → Option Definition
 definition_at None = None
 definition_at (Some e) = Some e.definition
 
+-- what the entry of this number says
 abbrev pub numbered_definition : List SymbolEntry → Option ℕ → Option Definition
 numbered_definition es None = None
 numbered_definition es (Some i) = definition_at (slice_get es i)

@@ -32,6 +32,7 @@ decision rules row = if is_exclude row.flags then Discard else name_decision row
 
 -- ---- the names of sections
 
+-- none of the names is x
 abbrev pub lacks : List Name → Name → Bool
 lacks names x = not (list_any (is_named x) names)
 
@@ -40,6 +41,7 @@ abbrev pub firsts : List Name → List Name
 firsts [] = []
 firsts (x ∷ xs) = x ∷ filter (lacks (x ∷ [])) (firsts xs)
 
+-- the name of a row, where the row goes by it
 abbrev pub asked_by : Name → Decision → List Name
 asked_by x ByName = x ∷ []
 asked_by x Discard = []
@@ -54,6 +56,7 @@ names_asked rules (row ∷ rows) = asked_by row.«section» (decision rules row)
 abbrev pub orphans : List Name → List Name → List Name
 orphans own asked = firsts (filter (lacks own) asked)
 
+-- the names of sections, in order
 abbrev pub names_of : List Section → List Name
 names_of [] = []
 names_of (s ∷ ss) = s.output_section_name ∷ names_of ss
@@ -62,7 +65,7 @@ names_of (s ∷ ss) = s.output_section_name ∷ names_of ss
 abbrev pub orphans_of : LinkerScript → InputTable → List Name
 orphans_of t inputs = orphans (names_of (sections_of t)) (names_asked (rules_of t) inputs.rows)
 
--- the names of all sections, by their numbers: those of the script, and behind them the orphans
+-- the names of all sections, by their numbers: those of the script, and after them the orphans
 abbrev pub section_names : LinkerScript → InputTable → List Name
 section_names t inputs = names_of (sections_of t) ++ orphans_of t inputs
 
@@ -73,6 +76,7 @@ abbrev pub first_chunk : Option ℕ → Option Kept
 first_chunk None = None
 first_chunk (Some s) = Some (record { chunk = record { «section» = s; number = 0 }; sorted = false })
 
+-- the fate of a row of this name, of which this is decided
 abbrev pub fate_by : List Name → Name → Decision → Option Kept
 fate_by names x Discard = None
 fate_by names x (Keep k) = Some k
@@ -82,6 +86,7 @@ fate_by names x ByName = first_chunk (number_of x names)
 abbrev pub fate : List Rule → List Name → InputRow → Option Kept
 fate rules names row = fate_by names row.«section» (decision rules row)
 
+-- the fate of each row
 abbrev pub all_fates : List Rule → List Name → List InputRow → List (Option Kept)
 all_fates rules names [] = []
 all_fates rules names (row ∷ rows) = fate rules names row ∷ all_fates rules names rows

@@ -1,95 +1,83 @@
 -- How faults are printed.
-use Rattle.std.specs.Prelude.{ℕ, List, [], ◌∷◌, ◌++◌, codes, decimal}
+use Rattle.std.specs.Prelude.{ℕ, ◌-◌, List, [], ◌∷◌, ◌++◌, slice_index_or, codes, decimal}
 use Rattle.wild_names.specs.Fault.{number_of}
 use Rattle.wild_names.specs.declared.fault.Fault.{Fault}
 use Rattle.wild_names.specs.declared.fault.Fault.TheVariants as fault
 use Rattle.wild_plan_spec.specs.Text.{field, printed_name}
 
-unfoldable pub variant_name : Fault → List ℕ
-variant_name (fault.Syntax position) = codes "Syntax"
-variant_name (fault.UnclosedComment position) = codes "UnclosedComment"
-variant_name (fault.UnsupportedNestedSort position) = codes "UnsupportedNestedSort"
-variant_name (fault.TooDeep position) = codes "TooDeep"
-variant_name (fault.BadRow row) = codes "BadRow"
-variant_name (fault.BadSymbolRow symbol) = codes "BadSymbolRow"
-variant_name (fault.BadDiscard statement) = codes "BadDiscard"
-variant_name (fault.BadPattern statement name) = codes "BadPattern"
-variant_name (fault.BadName statement) = codes "BadName"
-variant_name (fault.BadAlignment statement value) = codes "BadAlignment"
-variant_name (fault.BadFill statement value) = codes "BadFill"
-variant_name (fault.BadHeader index value) = codes "BadHeader"
-variant_name (fault.NotConstant statement) = codes "NotConstant"
-variant_name (fault.DuplicateSection name) = codes "DuplicateSection"
-variant_name (fault.DuplicateSymbol name) = codes "DuplicateSymbol"
-variant_name (fault.DuplicateName name) = codes "DuplicateName"
-variant_name (fault.OutputFormat name) = codes "OutputFormat"
-variant_name (fault.UnknownRegion name) = codes "UnknownRegion"
-variant_name (fault.UnknownPhdr name) = codes "UnknownPhdr"
-variant_name (fault.TooManySections count) = codes "TooManySections"
-variant_name (fault.TooManySegments segments) = codes "TooManySegments"
-variant_name (fault.DivisionByZero statement) = codes "DivisionByZero"
-variant_name (fault.ModuloByZero statement) = codes "ModuloByZero"
-variant_name (fault.AlignZero statement) = codes "AlignZero"
-variant_name (fault.UnknownSection name) = codes "UnknownSection"
-variant_name (fault.UnknownSymbol name) = codes "UnknownSymbol"
-variant_name (fault.NotLaidOut statement name) = codes "NotLaidOut"
-variant_name (fault.SymbolCycle name) = codes "SymbolCycle"
-variant_name (fault.DeepValue statement) = codes "DeepValue"
-variant_name (fault.BeforeSection name) = codes "BeforeSection"
-variant_name (fault.MovesBack statement from to) = codes "MovesBack"
-variant_name (fault.Overlap first second) = codes "Overlap"
-variant_name (fault.RegionFull region «section») = codes "RegionFull"
-variant_name (fault.Overflow left right) = codes "Overflow"
-variant_name (fault.AlignOverflow value align) = codes "AlignOverflow"
-variant_name (fault.AssertFailed line message) = codes "AssertFailed"
-variant_name fault.NoMemory = codes "NoMemory"
-variant_name (fault.Unsupported index) = codes "Unsupported"
+-- the names of faults, by their numbers from 1 on
+abbrev pub variant_names : List (List ℕ)
+variant_names =
+    codes "Syntax" ∷ codes "UnclosedComment" ∷ codes "UnsupportedNestedSort" ∷ codes "TooDeep"
+    ∷ codes "BadRow" ∷ codes "BadSymbolRow" ∷ codes "BadDiscard" ∷ codes "BadPattern" ∷ codes "BadName"
+    ∷ codes "BadAlignment" ∷ codes "BadFill" ∷ codes "BadHeader" ∷ codes "NotConstant"
+    ∷ codes "DuplicateSection" ∷ codes "DuplicateSymbol" ∷ codes "DuplicateName" ∷ codes "OutputFormat"
+    ∷ codes "UnknownRegion" ∷ codes "UnknownPhdr" ∷ codes "TooManySections" ∷ codes "TooManySegments"
+    ∷ codes "DivisionByZero" ∷ codes "ModuloByZero" ∷ codes "AlignZero" ∷ codes "UnknownSection"
+    ∷ codes "UnknownSymbol" ∷ codes "NotLaidOut" ∷ codes "SymbolCycle" ∷ codes "DeepValue"
+    ∷ codes "BeforeSection" ∷ codes "MovesBack" ∷ codes "Overlap" ∷ codes "RegionFull" ∷ codes "Overflow"
+    ∷ codes "AlignOverflow" ∷ codes "AssertFailed" ∷ codes "NoMemory" ∷ codes "Unsupported" ∷ []
+
+-- the name of a fault
+abbrev pub variant_name : Fault → List ℕ
+variant_name f = slice_index_or variant_names (number_of f - 1) []
 
 -- a field of a fault: ` WORD=TEXT`
-unfoldable pub set_to : List ℕ → List ℕ → List ℕ
-set_to word text = field (word ++ 61 ∷ text)
+unfoldable pub fault_field : List ℕ → List ℕ → List ℕ
+fault_field word text = field (word ++ 61 ∷ text)
 
--- the fields of a fault, each with its name
-unfoldable pub fields_text : Fault → List ℕ
-fields_text (fault.Syntax position) = set_to (codes "position") (decimal position)
-fields_text (fault.UnclosedComment position) = set_to (codes "position") (decimal position)
-fields_text (fault.UnsupportedNestedSort position) = set_to (codes "position") (decimal position)
-fields_text (fault.TooDeep position) = set_to (codes "position") (decimal position)
-fields_text (fault.BadRow row) = set_to (codes "row") (decimal row)
-fields_text (fault.BadSymbolRow symbol) = set_to (codes "symbol") (decimal symbol)
-fields_text (fault.BadDiscard statement) = set_to (codes "statement") (decimal statement)
-fields_text (fault.BadPattern statement name) = set_to (codes "statement") (decimal statement) ++ set_to (codes "name") (printed_name name)
-fields_text (fault.BadName statement) = set_to (codes "statement") (decimal statement)
-fields_text (fault.BadAlignment statement value) = set_to (codes "statement") (decimal statement) ++ set_to (codes "value") (decimal value)
-fields_text (fault.BadFill statement value) = set_to (codes "statement") (decimal statement) ++ set_to (codes "value") (decimal value)
-fields_text (fault.BadHeader index value) = set_to (codes "index") (decimal index) ++ set_to (codes "value") (decimal value)
-fields_text (fault.NotConstant statement) = set_to (codes "statement") (decimal statement)
-fields_text (fault.DuplicateSection name) = set_to (codes "name") (printed_name name)
-fields_text (fault.DuplicateSymbol name) = set_to (codes "name") (printed_name name)
-fields_text (fault.DuplicateName name) = set_to (codes "name") (printed_name name)
-fields_text (fault.OutputFormat name) = set_to (codes "name") (printed_name name)
-fields_text (fault.UnknownRegion name) = set_to (codes "name") (printed_name name)
-fields_text (fault.UnknownPhdr name) = set_to (codes "name") (printed_name name)
-fields_text (fault.TooManySections count) = set_to (codes "count") (decimal count)
-fields_text (fault.TooManySegments segments) = set_to (codes "segments") (decimal segments)
-fields_text (fault.DivisionByZero statement) = set_to (codes "statement") (decimal statement)
-fields_text (fault.ModuloByZero statement) = set_to (codes "statement") (decimal statement)
-fields_text (fault.AlignZero statement) = set_to (codes "statement") (decimal statement)
-fields_text (fault.UnknownSection name) = set_to (codes "name") (printed_name name)
-fields_text (fault.UnknownSymbol name) = set_to (codes "name") (printed_name name)
-fields_text (fault.NotLaidOut statement name) = set_to (codes "statement") (decimal statement) ++ set_to (codes "name") (printed_name name)
-fields_text (fault.SymbolCycle name) = set_to (codes "name") (printed_name name)
-fields_text (fault.DeepValue statement) = set_to (codes "statement") (decimal statement)
-fields_text (fault.BeforeSection name) = set_to (codes "name") (printed_name name)
-fields_text (fault.MovesBack statement from to) = set_to (codes "statement") (decimal statement) ++ set_to (codes "from") (decimal from) ++ set_to (codes "to") (decimal to)
-fields_text (fault.Overlap first second) = set_to (codes "first") (printed_name first) ++ set_to (codes "second") (printed_name second)
-fields_text (fault.RegionFull region «section») = set_to (codes "region") (printed_name region) ++ set_to (codes "section") (printed_name «section»)
-fields_text (fault.Overflow left right) = set_to (codes "left") (decimal left) ++ set_to (codes "right") (decimal right)
-fields_text (fault.AlignOverflow value align) = set_to (codes "value") (decimal value) ++ set_to (codes "align") (decimal align)
-fields_text (fault.AssertFailed line message) = set_to (codes "line") (decimal line) ++ set_to (codes "message") (printed_name message)
-fields_text fault.NoMemory = []
-fields_text (fault.Unsupported index) = set_to (codes "index") (decimal index)
+-- where a fault is: the number of a byte, a row, a symbol, a statement, a header or a line
+unfoldable pub where_field : Fault → List ℕ
+where_field (fault.Syntax position) = fault_field (codes "position") (decimal position)
+where_field (fault.UnclosedComment position) = fault_field (codes "position") (decimal position)
+where_field (fault.UnsupportedNestedSort position) = fault_field (codes "position") (decimal position)
+where_field (fault.TooDeep position) = fault_field (codes "position") (decimal position)
+where_field (fault.BadRow row) = fault_field (codes "row") (decimal row)
+where_field (fault.BadSymbolRow symbol) = fault_field (codes "symbol") (decimal symbol)
+where_field (fault.BadDiscard statement) = fault_field (codes "statement") (decimal statement)
+where_field (fault.BadPattern statement name) = fault_field (codes "statement") (decimal statement)
+where_field (fault.BadName statement) = fault_field (codes "statement") (decimal statement)
+where_field (fault.BadAlignment statement value) = fault_field (codes "statement") (decimal statement)
+where_field (fault.BadFill statement value) = fault_field (codes "statement") (decimal statement)
+where_field (fault.BadHeader index value) = fault_field (codes "index") (decimal index)
+where_field (fault.NotConstant statement) = fault_field (codes "statement") (decimal statement)
+where_field (fault.DivisionByZero statement) = fault_field (codes "statement") (decimal statement)
+where_field (fault.ModuloByZero statement) = fault_field (codes "statement") (decimal statement)
+where_field (fault.AlignZero statement) = fault_field (codes "statement") (decimal statement)
+where_field (fault.NotLaidOut statement name) = fault_field (codes "statement") (decimal statement)
+where_field (fault.DeepValue statement) = fault_field (codes "statement") (decimal statement)
+where_field (fault.MovesBack statement from to) = fault_field (codes "statement") (decimal statement)
+where_field (fault.AssertFailed line message) = fault_field (codes "line") (decimal line)
+where_field (fault.Unsupported index) = fault_field (codes "index") (decimal index)
+where_field f = []
 
--- `fault NUMBER VARIANT`, and the fields
+-- what else is said of a fault: names and numbers
+unfoldable pub what_fields : Fault → List ℕ
+what_fields (fault.BadPattern statement name) = fault_field (codes "name") (printed_name name)
+what_fields (fault.BadAlignment statement value) = fault_field (codes "value") (decimal value)
+what_fields (fault.BadFill statement value) = fault_field (codes "value") (decimal value)
+what_fields (fault.BadHeader index value) = fault_field (codes "value") (decimal value)
+what_fields (fault.DuplicateSection name) = fault_field (codes "name") (printed_name name)
+what_fields (fault.DuplicateSymbol name) = fault_field (codes "name") (printed_name name)
+what_fields (fault.DuplicateName name) = fault_field (codes "name") (printed_name name)
+what_fields (fault.OutputFormat name) = fault_field (codes "name") (printed_name name)
+what_fields (fault.UnknownRegion name) = fault_field (codes "name") (printed_name name)
+what_fields (fault.UnknownPhdr name) = fault_field (codes "name") (printed_name name)
+what_fields (fault.TooManySections count) = fault_field (codes "count") (decimal count)
+what_fields (fault.TooManySegments segments) = fault_field (codes "segments") (decimal segments)
+what_fields (fault.UnknownSection name) = fault_field (codes "name") (printed_name name)
+what_fields (fault.UnknownSymbol name) = fault_field (codes "name") (printed_name name)
+what_fields (fault.NotLaidOut statement name) = fault_field (codes "name") (printed_name name)
+what_fields (fault.SymbolCycle name) = fault_field (codes "name") (printed_name name)
+what_fields (fault.BeforeSection name) = fault_field (codes "name") (printed_name name)
+what_fields (fault.MovesBack statement from to) = fault_field (codes "from") (decimal from) ++ fault_field (codes "to") (decimal to)
+what_fields (fault.Overlap first second) = fault_field (codes "first") (printed_name first) ++ fault_field (codes "second") (printed_name second)
+what_fields (fault.RegionFull region «section») = fault_field (codes "region") (printed_name region) ++ fault_field (codes "section") (printed_name «section»)
+what_fields (fault.Overflow left right) = fault_field (codes "left") (decimal left) ++ fault_field (codes "right") (decimal right)
+what_fields (fault.AlignOverflow value align) = fault_field (codes "value") (decimal value) ++ fault_field (codes "align") (decimal align)
+what_fields (fault.AssertFailed line message) = fault_field (codes "message") (printed_name message)
+what_fields f = []
+
+-- `fault NUMBER VARIANT`, and the fields, each with its name
 abbrev pub fault_text : Fault → List ℕ
-fault_text f = codes "fault" ++ field (decimal (number_of f)) ++ field (variant_name f) ++ fields_text f
+fault_text f = codes "fault" ++ field (decimal (number_of f)) ++ field (variant_name f) ++ where_field f ++ what_fields f

@@ -15,7 +15,7 @@ use Rattle.wild_plan_spec.specs.Checks.{checks, failing}
 use Rattle.wild_plan_spec.specs.Orphans.{places_of}
 use Rattle.wild_plan_spec.specs.Steps.{State}
 use Rattle.wild_plan_spec.specs.Walk.{Stands, Refuses}
-use Rattle.wild_plan_spec.specs.End.{finished}
+use Rattle.wild_plan_spec.specs.End.{final_symbols}
 use Rattle.wild_plan_spec.specs.Layout.{Layout, layout}
 
 module _ (script : Bytes) (t : LinkerScript) (inputs : InputTable) where
@@ -35,7 +35,7 @@ module _ (script : Bytes) (t : LinkerScript) (inputs : InputTable) where
     pub state : State
     pub laid : IsLaid state
     pub found : List PlacedSymbol
-    pub finishes : finished (scope_of script t inputs) state.known (places_of t inputs) ≡ Ok found
+    pub finishes : final_symbols (scope_of script t inputs) state.known (places_of t inputs) ≡ Ok found
     pub listed : plan ≡ layout t inputs state found
 
   -- All checks hold, and a place refuses.
@@ -49,9 +49,9 @@ module _ (script : Bytes) (t : LinkerScript) (inputs : InputTable) where
   pub record EndFault (fault : Fault) : Type 0 where
     pub state : State
     pub laid : IsLaid state
-    pub refused : finished (scope_of script t inputs) state.known (places_of t inputs) ≡ Err fault
+    pub refused : final_symbols (scope_of script t inputs) state.known (places_of t inputs) ≡ Err fault
 
-  -- the first check that fails, or the first place that refuses, or the first fault behind them
+  -- the first check that fails, or the first place that refuses, or the first fault after them
   abbrev pub FaultIn : Fault → Type 0
   FaultIn fault = (failing (checks t inputs) ≡ Some fault) ⊎ LayoutFault fault ⊎ EndFault fault
 

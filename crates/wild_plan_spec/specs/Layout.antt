@@ -1,26 +1,24 @@
 -- What a plan lists.
-use Rattle.std.specs.Prelude.{ℕ, ◌+◌, ◌-◌, ◌%◌, ◌^◌, true, false, List, [], ◌∷◌, ◌++◌, Option, Some, None, if◌then◌else◌}
+use Rattle.std.specs.Prelude.{ℕ, ◌+◌, ◌-◌, true, List, [], ◌∷◌, ◌++◌, Option, Some, None, if◌then◌else◌}
 use Rattle.std.specs.List.{list_any}
 use Rattle.wild_names.specs.InputFlags.{is_write, is_exec}
 use Rattle.wild_names.specs.declared.input_flags.InputFlags.{InputFlags}
 use Rattle.wild_script.specs.declared.tree.LinkerScript.{LinkerScript}
-use Rattle.wild_plan_spec.specs.declared.chunk.Chunk.{Chunk}
 use Rattle.wild_plan_spec.specs.declared.chunk.Kept.{Kept}
 use Rattle.wild_plan_spec.specs.declared.row.InputRow.{InputRow}
 use Rattle.wild_plan_spec.specs.declared.row.InputTable.{InputTable}
-use Rattle.wild_plan_spec.specs.declared.row.SymbolRow.{SymbolRow}
 use Rattle.wild_plan_spec.specs.declared.placed.PlacedSection.{PlacedSection}
 use Rattle.wild_plan_spec.specs.declared.placed.PlacedLocation.{PlacedLocation}
 use Rattle.wild_plan_spec.specs.declared.placed.PlacedInput.{PlacedInput}
 use Rattle.wild_plan_spec.specs.declared.placed.PlacedInput.TheVariants.{Discarded, Placed}
 use Rattle.wild_plan_spec.specs.declared.placed.PlacedSymbol.{PlacedSymbol}
 use Rattle.wild_plan_spec.specs.declared.placed.RowNames.{RowNames}
-use Rattle.wild_plan_spec.specs.Definitions.{symbol_chunk}
 use Rattle.wild_plan_spec.specs.Fates.{section_names, fates_of}
 use Rattle.wild_plan_spec.specs.Names.{Name}
 use Rattle.wild_plan_spec.specs.Chunks.{section_rows, largest_alignment}
 use Rattle.wild_value_spec.specs.Known.{Known, Start, Load, End, Address, number_at}
 use Rattle.wild_plan_spec.specs.Steps.{State}
+use Rattle.wild_plan_spec.specs.Symbols.{table_symbols}
 
 -- a plan, as callers see it
 pub record Layout : Type 0 where
@@ -69,21 +67,12 @@ abbrev pub placed_inputs : Known → ℕ → List (Option Kept) → List PlacedI
 placed_inputs known n [] = []
 placed_inputs known n (fate ∷ fates) = placed_input known n fate ∷ placed_inputs known (n + 1) fates
 
+-- the file and the section of each row
 abbrev pub row_names : List InputRow → List RowNames
 row_names [] = []
 row_names (row ∷ rows) = record { file = row.file; «section» = row.«section» } ∷ row_names rows
 
--- a symbol of the table, in the chunk of its row; rows end below 2 ^ 64, so that this is the sum
-abbrev pub table_symbol : Known → SymbolRow → Option Chunk → List PlacedSymbol
-table_symbol known s None = []
-table_symbol known s (Some chunk) = record { name = s.name; address = (number_at known (Address s.row) + s.offset) % 2 ^ 64; «section» = Some chunk.«section»; hidden = false } ∷ []
-
--- in table order
-abbrev pub table_symbols : Known → List (Option Kept) → List SymbolRow → List PlacedSymbol
-table_symbols known fates [] = []
-table_symbols known fates (s ∷ ss) = table_symbol known s (symbol_chunk fates s) ++ table_symbols known fates ss
-
--- what is listed of a script and its table where this stands behind the last place, and these are the symbols of the script
+-- what is listed of a script and its table where this stands after the last place, and these are the symbols of the script
 abbrev pub layout : LinkerScript → InputTable → State → List PlacedSymbol → Layout
 layout t inputs state found = record {
   script = t;

@@ -10,8 +10,11 @@ pub mod Built
 pub mod Definitions
 pub mod Scopes
 pub mod Checks
+pub mod Overlaps
 pub mod Steps
 pub mod Walk
+pub mod Symbols
+pub mod Conditions
 pub mod End
 pub mod Layout
 pub mod Fit

@@ -12,6 +12,7 @@ pub record IsOrdered {X : Type 0} (lt : X → X → Bool) (xs ys : List X) : Typ
   pub sorted : IsSortedBy lt ys
   pub stable : IsStableBy lt xs ys
 
+-- by section, then by number
 abbrev pub chunk_cmp : Chunk → Chunk → Ordering
 chunk_cmp a b = ordering_then (nat_cmp a.«section» b.«section») (nat_cmp a.number b.number)
 
@@ -25,5 +26,6 @@ row_cmp a b =
     (ordering_then (nat_cmp a.row b.row)
     (ordering_then (nat_cmp a.size b.size) (chunk_cmp a.chunk b.chunk)))))
 
+-- the one row stands before the other
 abbrev pub stands_before : ChunkRow → ChunkRow → Bool
 stands_before a b = is_lt (row_cmp a b)

@@ -12,6 +12,6 @@ abbrev pub orphan_places : ℕ → List Name → List Place
 orphan_places s [] = []
 orphan_places s (x ∷ xs) = Open s ∷ Rows (record { «section» = s; number = 0 }) ∷ Close s None ∷ orphan_places (s + 1) xs
 
--- those of the script, and behind them those of the orphans
+-- those of the script, and after them those of the orphans
 abbrev pub places_of : LinkerScript → InputTable → List Place
 places_of t inputs = script_places t ++ orphan_places (length (sections_of t)) (orphans_of t inputs)

@@ -27,6 +27,7 @@ pub data Task : Type 0 where
   -- a condition must hold
   Check : AssertCommand → Task
 
+-- a place of a script
 pub data Place : Type 0 where
   -- the location counter becomes the value of an expression
   SetLocation : Expression → Place
@@ -51,7 +52,7 @@ task_of (Within task) = Some task
 task_of (Outside task) = Some task
 task_of p = None
 
--- the chunks of matchers up to behind a place, where k stand before it
+-- the chunks of matchers up to the end of a place that k chunks precede
 abbrev pub next_chunk : ℕ → Place → ℕ
 next_chunk k (Collect (Some q) m) = k + 1
 next_chunk k p = k
@@ -66,13 +67,16 @@ abbrev pub rest_chunk : ℕ → List ContentsCommand → Option Chunk
 rest_chunk s [] = Some (record { «section» = s; number = 0 })
 rest_chunk s (OfMatcher m ∷ cs) = None
 
+-- section s begins, its statements, and it ends
 abbrev pub section_places : ℕ → Section → List Place
 section_places s x = Open s ∷ (contents_places s 0 x.commands ++ Close s (rest_chunk s x.commands) ∷ [])
 
+-- the statements of `/DISCARD/`
 abbrev pub discarding_places : List ContentsCommand → List Place
 discarding_places [] = []
 discarding_places (OfMatcher m ∷ cs) = Collect None m ∷ discarding_places cs
 
+-- `/DISCARD/` begins, its statements, and it ends
 abbrev pub discard_places : Section → List Place
 discard_places x = Idle ∷ (discarding_places x.commands ++ Idle ∷ [])
 
@@ -92,11 +96,12 @@ outer_places (command.Provide d) = Outside (Provide d) ∷ []
 outer_places (command.Assert c) = Outside (Check c) ∷ []
 outer_places (command.Sections s) = []
 
+-- the places of a statement, whose section, if it is one, has the number s
 abbrev pub statement_places : ℕ → Statement → List Place
 statement_places s (Inner c) = inner_places s c
 statement_places s (Outer c) = outer_places c
 
--- the number of the next section behind a statement
+-- the number of the next section after a statement
 abbrev pub next_section : ℕ → Statement → ℕ
 next_section s (Inner (inner.Section x)) = if is_discard x then s else s + 1
 next_section s st = s

@@ -29,19 +29,21 @@ rule_of (Ok files) (Err f) d = []
 rule_of (Ok files) (Ok names) d = record { names = names; files = files; decision = d } ∷ []
 
 -- what a pattern decides in a matcher that collects for this chunk, or for none
-abbrev pub decided : Option Chunk → SectionPattern → Decision
-decided None p = Discard
-decided (Some q) p = Keep (record { chunk = q; sorted = p.sorted })
+abbrev pub pattern_decision : Option Chunk → SectionPattern → Decision
+pattern_decision None p = Discard
+pattern_decision (Some q) p = Keep (record { chunk = q; sorted = p.sorted })
 
+-- the rules of these patterns, each with this file pattern
 abbrev pub pattern_rules : Option Chunk → Option Name → List SectionPattern → List Rule
 pattern_rules q file [] = []
-pattern_rules q file (p ∷ ps) = rule_of (files_of file) (names_of p.name) (decided q p) ++ pattern_rules q file ps
+pattern_rules q file (p ∷ ps) = rule_of (files_of file) (names_of p.name) (pattern_decision q p) ++ pattern_rules q file ps
 
 -- one rule for each pattern of a matcher
 abbrev pub place_rules : Place → List Rule
 place_rules (Collect q m) = pattern_rules q m.input_file_pattern m.input_section_name_patterns
 place_rules p = []
 
+-- the rules of all places
 abbrev pub rules_in : List Place → List Rule
 rules_in [] = []
 rules_in (p ∷ ps) = place_rules p ++ rules_in ps
@@ -50,6 +52,7 @@ rules_in (p ∷ ps) = place_rules p ++ rules_in ps
 abbrev pub rules_of : LinkerScript → List Rule
 rules_of t = rules_in (script_places t)
 
+-- the rule takes a row, by its section and its file
 abbrev pub takes_row : InputRow → Rule → Bool
 takes_row row rule = takes_name rule.names row.«section» && takes_file rule.files (Some row.file)
 

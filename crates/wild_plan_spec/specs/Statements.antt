@@ -8,12 +8,14 @@ use Rattle.wild_script.specs.declared.tree.SectionCommand.{SectionCommand}
 use Rattle.wild_script.specs.declared.tree.SectionCommand.TheVariants.{Section as OfSection}
 use Rattle.wild_script.specs.declared.tree.Section.{Section}
 
+-- a statement of a script
 pub data Statement : Type 0 where
   -- in SECTIONS
   Inner : SectionCommand → Statement
   -- an outermost command other than SECTIONS
   Outer : Command → Statement
 
+-- the statements in a SECTIONS
 abbrev pub inner_statements : List SectionCommand → List Statement
 inner_statements [] = []
 inner_statements (c ∷ cs) = Inner c ∷ inner_statements cs
@@ -26,6 +28,7 @@ command_statements (SetLocation l) = Outer (SetLocation l) ∷ []
 command_statements (Provide d) = Outer (Provide d) ∷ []
 command_statements (Assert c) = Outer (Assert c) ∷ []
 
+-- what all commands hold
 abbrev pub all_statements : List Command → List Statement
 all_statements [] = []
 all_statements (c ∷ cs) = command_statements c ++ all_statements cs
@@ -38,10 +41,12 @@ statements_of t = all_statements t.commands
 unfoldable pub is_discard : Section → Bool
 is_discard s = bytes_eq s.output_section_name (codes "/DISCARD/")
 
+-- the section that a statement is, if it is one
 abbrev pub sections_in : Statement → List Section
 sections_in (Inner (OfSection s)) = if is_discard s then [] else s ∷ []
 sections_in st = []
 
+-- the sections among statements
 abbrev pub statement_sections : List Statement → List Section
 statement_sections [] = []
 statement_sections (st ∷ sts) = sections_in st ++ statement_sections sts

@@ -1,5 +1,5 @@
 -- What each place of a script does to what stands before it.
-use Rattle.std.specs.Prelude.{ℕ, zero, suc, ◌^◌, ◌&&◌, Bool, nat_lt, if◌then◌else◌, List, [], ◌∷◌, ◌++◌, Option, Some, None, Result, Ok, Err}
+use Rattle.std.specs.Prelude.{ℕ, ◌^◌, nat_lt, if◌then◌else◌, List, [], ◌∷◌, ◌++◌, Option, Some, None, Result, Ok, Err}
 use Rattle.wild_ids.specs.Alignment.{rounded_up}
 use Rattle.wild_names.specs.declared.fault.Fault.{Fault}
 use Rattle.wild_names.specs.declared.fault.Fault.TheVariants.{AlignOverflow, Overlap}
@@ -13,6 +13,7 @@ use Rattle.wild_plan_spec.specs.declared.chunk.ChunkRow.{ChunkRow}
 use Rattle.wild_plan_spec.specs.declared.placed.PlacedLocation.{PlacedLocation}
 use Rattle.wild_plan_spec.specs.Chunks.{largest}
 use Rattle.wild_plan_spec.specs.Definitions.{point_of}
+use Rattle.wild_plan_spec.specs.Overlaps.{lowest_sharing}
 use Rattle.wild_plan_spec.specs.Places.{Place, SetLocation, Within, Outside, Open, Collect, Rows, Close, Idle}
 
 -- what stands before a place
@@ -42,11 +43,12 @@ row_placed r st =
     sum_of st.cursor size >>= (λ next.
     Ok (record st { cursor = next; known = with_number (Address r.row) st.cursor st.known })))
 
+-- one row after another
 abbrev pub rows_placed : List ChunkRow → State → Result State Fault
 rows_placed [] st = Ok st
 rows_placed (r ∷ rs) st = row_placed r st >>= (λ next. rows_placed rs next)
 
--- the rows of a chunk stand one behind the other, from the next multiple of the largest alignment on
+-- the rows of a chunk stand one after the other, from the next multiple of the largest alignment on
 unfoldable pub chunk_placed : List ChunkRow → State → Result State Fault
 chunk_placed rows st =
     up st.cursor (largest rows) >>= (λ n.
@@ -65,23 +67,6 @@ section_opened s alignment st =
     up st.counter alignment >>= (λ n.
     Ok (record st { cursor = n; known = with_number (Load s) n (with_number (Start s) n st.known) }))
 
--- whether an earlier section holds one of the addresses from start up to end
-unfoldable pub shares : Known → ℕ → ℕ → ℕ → Bool
-shares known start end s =
-    nat_lt (number_at known (Start s)) (number_at known (End s)) && (nat_lt start end
-    && (nat_lt start (number_at known (End s)) && nat_lt (number_at known (Start s)) end))
-
--- of two sections the one that starts lower, or the first of them
-abbrev pub lower : Known → Option ℕ → Option ℕ → Option ℕ
-lower known None found = found
-lower known (Some s) None = Some s
-lower known (Some s) (Some t) = if nat_lt (number_at known (Start t)) (number_at known (Start s)) then Some t else Some s
-
--- of the sections with numbers below n that share an address with those from start up to end, the one that starts lowest
-abbrev pub sharing : Known → ℕ → ℕ → ℕ → Option ℕ
-sharing known start end zero = None
-sharing known start end (suc n) = lower known (sharing known start end n) (if shares known start end n then Some n else None)
-
 -- a section ends at the cursor, and so does the counter
 unfoldable pub section_ended : ℕ → State → Result State Fault
 section_ended s st = Ok (record st { counter = st.cursor; known = with_number (End s) st.cursor st.known })
@@ -93,19 +78,20 @@ unfoldable pub counter_noted : ℕ → ℕ → State → Result State Fault
 counter_noted i n st = Ok (record st { known = with_number (Dot i) n st.known })
 
 module _ (scope : Scope) where
+  -- a section ends, unless it shares an address with this one
   abbrev pub section_closed_by : ℕ → Option ℕ → State → Result State Fault
   section_closed_by s None st = section_ended s st
   section_closed_by s (Some other) st = Err (Overlap (scope.section_name other) (scope.section_name s))
 
   -- a section ends, unless it shares an address with an earlier one
   unfoldable pub section_ended_alone : ℕ → State → Result State Fault
-  section_ended_alone s st = section_closed_by s (sharing st.known (number_at st.known (Start s)) st.cursor s) st
+  section_ended_alone s st = section_closed_by s (lowest_sharing st.known (number_at st.known (Start s)) st.cursor s) st
 
   -- the rows of the rest are placed, and the section ends
   unfoldable pub section_ended_after : List ChunkRow → ℕ → State → Result State Fault
   section_ended_after rest s st = chunk_placed rest st >>= section_ended_alone s
 
-  -- a section ends, behind its rest, if it has one
+  -- a section ends, after its rest, if it has one
   unfoldable pub section_closed : (Chunk → List ChunkRow) → ℕ → Option Chunk → State → Result State Fault
   section_closed rows s None st = section_ended_alone s st
   section_closed rows s (Some q) st = section_ended_after (rows q) s st
@@ -118,7 +104,7 @@ module _ (scope : Scope) where
       full scope i (with_number (Dot i) st.counter st.known) 1024 [] e (point_of i) >>= (λ n.
       Ok (record st { counter = n; known = with_number (Dot i) st.counter st.known; locations = st.locations ++ record { statement = i; address = n } ∷ [] }))
 
-  -- what stands behind place i, or its first refusal; rows has the rows of each chunk in their order. Outside of
+  -- what stands after place i, or its first refusal; rows has the rows of each chunk in their order. Outside of
   -- SECTIONS the location counter is read as 0
   unfoldable pub step : (Chunk → List ChunkRow) → ℕ → Place → State → Result State Fault
   step rows i (SetLocation e) st = location_set i e st

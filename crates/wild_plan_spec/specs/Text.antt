@@ -22,6 +22,7 @@ is_plain b = nat_le 0x21 b && nat_le b 0x7e && not (b == 92) && not (b == 44)
 abbrev pub printed_byte : ℕ → List ℕ
 printed_byte b = if is_plain b then b ∷ [] else 92 ∷ 120 ∷ digit_glyph false (b / 16) ∷ digit_glyph false (b % 16) ∷ []
 
+-- the name `-`
 abbrev pub is_dash : Name → Bool
 is_dash [] = false
 is_dash (b ∷ []) = b == 45
@@ -36,20 +37,25 @@ printed_name (b ∷ bs) = if is_dash (b ∷ bs) then codes "\\x2d" else flat_map
 abbrev pub hexadecimal : ℕ → ℕ → List ℕ
 hexadecimal width n = replicate (width - length (digits 16 false n)) 48 ++ digits 16 false n
 
+-- `0x` and sixteen hexadecimal digits
 abbrev pub printed_address : ℕ → List ℕ
 printed_address n = codes "0x" ++ hexadecimal 16 n
 
--- ---- fields of lines: each with the blank before it
+-- ---- fields of lines
 
+-- a blank and a text
 abbrev pub field : List ℕ → List ℕ
 field text = 32 ∷ text
 
+-- a letter, where its flag is set
 abbrev pub letter : Bool → ℕ → List ℕ
 letter b c = if b then c ∷ [] else []
 
+-- the letters of the flags that are set
 abbrev pub letters_of : InputFlags → List ℕ
 letters_of flags = letter (is_alloc flags) 65 ++ letter (is_write flags) 87 ++ letter (is_exec flags) 88 ++ letter (is_nobits flags) 66 ++ letter (is_tls flags) 84
 
+-- the text, or a dash where there is none
 abbrev pub or_dash : List ℕ → List ℕ
 or_dash [] = 45 ∷ []
 or_dash (c ∷ cs) = c ∷ cs
@@ -58,10 +64,12 @@ or_dash (c ∷ cs) = c ∷ cs
 abbrev pub printed_flags : InputFlags → List ℕ
 printed_flags flags = or_dash (letters_of flags)
 
+-- eight hexadecimal digits, or a dash
 abbrev pub printed_fill : Option ℕ → List ℕ
 printed_fill None = 45 ∷ []
 printed_fill (Some n) = hexadecimal 8 n
 
+-- the name of a region, or a dash
 abbrev pub printed_region : Option Name → List ℕ
 printed_region None = 45 ∷ []
 printed_region (Some x) = printed_name x
@@ -82,6 +90,7 @@ unfoldable pub section_line : PlacedSection → List ℕ
 section_line s = codes "section" ++ field (printed_name s.name) ++ field (printed_address s.start) ++ field (printed_address s.load) ++ field (printed_address s.size)
     ++ field (decimal (2 ^ s.alignment)) ++ field (printed_flags s.flags) ++ field (printed_fill s.fill) ++ field (printed_region s.region) ++ field (printed_names s.headers) ++ 10 ∷ []
 
+-- the name of the section at an index
 abbrev pub name_at : List PlacedSection → ℕ → Name
 name_at sections i = named (slice_get sections i)
   where
@@ -110,6 +119,7 @@ abbrev pub printed_holder : List PlacedSection → Option ℕ → List ℕ
 printed_holder sections None = 45 ∷ []
 printed_holder sections (Some s) = printed_name (name_at sections s)
 
+-- `hidden`, or `default`
 abbrev pub printed_visibility : Bool → List ℕ
 printed_visibility true = codes "hidden"
 printed_visibility false = codes "default"

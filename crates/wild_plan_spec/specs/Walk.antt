@@ -8,7 +8,7 @@ use Rattle.wild_plan_spec.specs.Places.{Place}
 use Rattle.wild_plan_spec.specs.Steps.{State, first_state, step}
 
 module _ (scope : Scope) (rows : Chunk → List ChunkRow) (places : List Place) where
-  -- the first k places are laid out: each leads by its step from what stands before it to what stands behind it
+  -- the first k places are laid out: each leads by its step from what stands before it to what stands after it
   pub record Stands (k : ℕ) (state : State) : Type 0 where
     pub before : ℕ → State
     pub within : k ≤ length places

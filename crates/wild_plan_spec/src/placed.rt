@@ -1,10 +1,51 @@
 //! What a plan lists.
 
-use sqlite_items::Items;
-use wild_base::{Alignment, InputFlags, Name};
+ghost use Rattle.std.specs.Prelude.{◌≡◌, [], ◌∷◌, ◌++◌, OnOk};
 
-/// Names, in order.
-pub type Names = Items<Name>;
+use sqlite_items::Items;
+use std::alloc::Global;
+use std::marker::Model;
+use wild_base::{Alignment, InputFlags, Name, NoMemory};
+
+/// Names, in order. Contracts see them as a list.
+#[derive(Debug, Drop)]
+pub struct Names {
+    names: Items<Name>,
+}
+
+impl Model for Names {
+    ghost use Rattle.std.specs.Prelude.{List, ℕ};
+
+    ghost Value = { List (List ℕ) };
+
+    ghost view = { λ list. list.names };
+}
+
+impl Names {
+    /// No names.
+    pub fn new(alloc: Global) -> Names
+        ensures { result ≡ [] }
+    {
+        Names {
+            names: Items::new(alloc),
+        }
+    }
+
+    /// Puts a name after the others. Fails where memory runs out.
+    pub fn push(&mut self, name: Name) -> Result<(), NoMemory>
+        ensures { OnOk result (self.new ≡ self.old ++ name ∷ []) }
+    {
+        self.names.push(name)?;
+        Ok(())
+    }
+
+    /// All of them, in order.
+    pub fn as_slice(&self) -> &[Name]
+        ensures { result.now ≡ self.now }
+    {
+        self.names.as_slice()
+    }
+}
 
 /// An output section. Addresses and sizes count bytes.
 #[derive(Debug, Drop)]

@@ -1,7 +1,11 @@
 //! Tables of input sections and their symbols.
 
+ghost use Rattle.std.specs.Prelude.{◌≡◌, [], ◌∷◌, ◌++◌, OnOk, length};
+
 use sqlite_items::Items;
-use wild_base::{InputFlags, Name};
+use std::alloc::Global;
+use std::marker::Model;
+use wild_base::{InputFlags, Name, NoMemory};
 
 /// An input section of a file. Sizes and alignments count bytes.
 #[derive(Debug, Drop)]
@@ -13,8 +17,53 @@ pub struct InputRow {
     pub flags: InputFlags,
 }
 
-/// Rows in table order.
-pub type InputRows = Items<InputRow>;
+/// Rows in table order. Contracts see them as a list.
+#[derive(Debug, Drop)]
+pub struct InputRows {
+    rows: Items<InputRow>,
+}
+
+impl Model for InputRows {
+    ghost use Rattle.std.specs.Prelude.{List};
+    ghost use Rattle.wild_plan_spec.specs.declared.row.InputRow.{InputRow};
+
+    ghost Value = { List InputRow };
+
+    ghost view = { λ list. list.rows };
+}
+
+impl InputRows {
+    /// No rows.
+    pub fn new(alloc: Global) -> InputRows
+        ensures { result ≡ [] }
+    {
+        InputRows {
+            rows: Items::new(alloc),
+        }
+    }
+
+    /// Puts a row after the others. Fails where memory runs out.
+    pub fn push(&mut self, row: InputRow) -> Result<(), NoMemory>
+        ensures { OnOk result (self.new ≡ self.old ++ row ∷ []) }
+    {
+        self.rows.push(row)?;
+        Ok(())
+    }
+
+    /// How many there are.
+    pub fn len(&self) -> usize
+        ensures { result ≡ length self.now }
+    {
+        self.rows.len()
+    }
+
+    /// All of them, in order.
+    pub fn as_slice(&self) -> &[InputRow]
+        ensures { result.now ≡ self.now }
+    {
+        self.rows.as_slice()
+    }
+}
 
 /// A symbol of an input section.
 #[derive(Debug, Drop)]
@@ -26,8 +75,53 @@ pub struct SymbolRow {
     pub offset: u64,
 }
 
-/// Symbols in table order.
-pub type SymbolRows = Items<SymbolRow>;
+/// Symbols in table order. Contracts see them as a list.
+#[derive(Debug, Drop)]
+pub struct SymbolRows {
+    symbols: Items<SymbolRow>,
+}
+
+impl Model for SymbolRows {
+    ghost use Rattle.std.specs.Prelude.{List};
+    ghost use Rattle.wild_plan_spec.specs.declared.row.SymbolRow.{SymbolRow};
+
+    ghost Value = { List SymbolRow };
+
+    ghost view = { λ list. list.symbols };
+}
+
+impl SymbolRows {
+    /// No symbols.
+    pub fn new(alloc: Global) -> SymbolRows
+        ensures { result ≡ [] }
+    {
+        SymbolRows {
+            symbols: Items::new(alloc),
+        }
+    }
+
+    /// Puts a symbol after the others. Fails where memory runs out.
+    pub fn push(&mut self, symbol: SymbolRow) -> Result<(), NoMemory>
+        ensures { OnOk result (self.new ≡ self.old ++ symbol ∷ []) }
+    {
+        self.symbols.push(symbol)?;
+        Ok(())
+    }
+
+    /// How many there are.
+    pub fn len(&self) -> usize
+        ensures { result ≡ length self.now }
+    {
+        self.symbols.len()
+    }
+
+    /// All of them, in order.
+    pub fn as_slice(&self) -> &[SymbolRow]
+        ensures { result.now ≡ self.now }
+    {
+        self.symbols.as_slice()
+    }
+}
 
 /// The input sections that are to be placed, and their symbols.
 #[derive(Debug, Drop)]

@@ -2,7 +2,7 @@
 
 ghost use Rattle.std.specs.Prelude.{◌≡◌, ◌++◌, OnOk, IfOk, string_bytes, decimal};
 ghost use Rattle.wild_plan_spec.specs.Text.{printed_name};
-ghost use Rattle.wild_plan_spec.specs.FaultText.{variant_name, set_to, fields_text, fault_text};
+ghost use Rattle.wild_plan_spec.specs.FaultText.{variant_name, fault_field, where_field, what_fields, fault_text};
 
 use crate::text::{name_of, push_name, push_number_field};
 use std::alloc::{AllocError, Global};
@@ -26,152 +26,165 @@ fn push_fault(out: &mut String, fault: &Fault) -> Result<(), AllocError>
     push_number_field(out, u64::from(fault.number()))?;
     out.push(' ')?;
     out.push_str(variant_name(fault))?;
-    push_fields(out, fault)
+    push_where(out, fault)?;
+    push_what(out, fault)
 }
 
-#[tactic(auto, unfolding(wild_plan_spec::specs::FaultText::variant_name))]
+/// The names of the faults, by their numbers from 1 on.
+const VARIANT_NAMES: [&str; 38] = [
+    "Syntax",
+    "UnclosedComment",
+    "UnsupportedNestedSort",
+    "TooDeep",
+    "BadRow",
+    "BadSymbolRow",
+    "BadDiscard",
+    "BadPattern",
+    "BadName",
+    "BadAlignment",
+    "BadFill",
+    "BadHeader",
+    "NotConstant",
+    "DuplicateSection",
+    "DuplicateSymbol",
+    "DuplicateName",
+    "OutputFormat",
+    "UnknownRegion",
+    "UnknownPhdr",
+    "TooManySections",
+    "TooManySegments",
+    "DivisionByZero",
+    "ModuloByZero",
+    "AlignZero",
+    "UnknownSection",
+    "UnknownSymbol",
+    "NotLaidOut",
+    "SymbolCycle",
+    "DeepValue",
+    "BeforeSection",
+    "MovesBack",
+    "Overlap",
+    "RegionFull",
+    "Overflow",
+    "AlignOverflow",
+    "AssertFailed",
+    "NoMemory",
+    "Unsupported",
+];
+
 fn variant_name(fault: &Fault) -> &'static str
     ensures { result.now ≡ variant_name fault.now }
 {
+    VARIANT_NAMES[fault.number() as usize - 1]
+}
+
+// Appends the field that says where a fault is, if it has one.
+#[tactic(auto, unfolding(wild_plan_spec::specs::FaultText::where_field))]
+fn push_where(out: &mut String, fault: &Fault) -> Result<(), AllocError>
+    ensures { OnOk result (string_bytes out.new ≡ string_bytes out.old ++ where_field fault.now) }
+{
     match fault {
-        Fault::Syntax { .. } => "Syntax",
-        Fault::UnclosedComment { .. } => "UnclosedComment",
-        Fault::UnsupportedNestedSort { .. } => "UnsupportedNestedSort",
-        Fault::TooDeep { .. } => "TooDeep",
-        Fault::BadRow { .. } => "BadRow",
-        Fault::BadSymbolRow { .. } => "BadSymbolRow",
-        Fault::BadDiscard { .. } => "BadDiscard",
-        Fault::BadPattern { .. } => "BadPattern",
-        Fault::BadName { .. } => "BadName",
-        Fault::BadAlignment { .. } => "BadAlignment",
-        Fault::BadFill { .. } => "BadFill",
-        Fault::BadHeader { .. } => "BadHeader",
-        Fault::NotConstant { .. } => "NotConstant",
-        Fault::DuplicateSection { .. } => "DuplicateSection",
-        Fault::DuplicateSymbol { .. } => "DuplicateSymbol",
-        Fault::DuplicateName { .. } => "DuplicateName",
-        Fault::OutputFormat { .. } => "OutputFormat",
-        Fault::UnknownRegion { .. } => "UnknownRegion",
-        Fault::UnknownPhdr { .. } => "UnknownPhdr",
-        Fault::TooManySections { .. } => "TooManySections",
-        Fault::TooManySegments { .. } => "TooManySegments",
-        Fault::DivisionByZero { .. } => "DivisionByZero",
-        Fault::ModuloByZero { .. } => "ModuloByZero",
-        Fault::AlignZero { .. } => "AlignZero",
-        Fault::UnknownSection { .. } => "UnknownSection",
-        Fault::UnknownSymbol { .. } => "UnknownSymbol",
-        Fault::NotLaidOut { .. } => "NotLaidOut",
-        Fault::SymbolCycle { .. } => "SymbolCycle",
-        Fault::DeepValue { .. } => "DeepValue",
-        Fault::BeforeSection { .. } => "BeforeSection",
-        Fault::MovesBack { .. } => "MovesBack",
-        Fault::Overlap { .. } => "Overlap",
-        Fault::RegionFull { .. } => "RegionFull",
-        Fault::Overflow { .. } => "Overflow",
-        Fault::AlignOverflow { .. } => "AlignOverflow",
-        Fault::AssertFailed { .. } => "AssertFailed",
-        Fault::NoMemory => "NoMemory",
-        Fault::Unsupported { .. } => "Unsupported",
+        Fault::Syntax { position }
+        | Fault::UnclosedComment { position }
+        | Fault::UnsupportedNestedSort { position }
+        | Fault::TooDeep { position } => push_number(out, "position", *position as u64),
+        Fault::BadRow { row } => push_number(out, "row", *row as u64),
+        Fault::BadSymbolRow { symbol } => push_number(out, "symbol", *symbol),
+        Fault::BadDiscard { statement }
+        | Fault::BadPattern { statement, .. }
+        | Fault::BadName { statement }
+        | Fault::BadAlignment { statement, .. }
+        | Fault::BadFill { statement, .. }
+        | Fault::NotConstant { statement }
+        | Fault::DivisionByZero { statement }
+        | Fault::ModuloByZero { statement }
+        | Fault::AlignZero { statement }
+        | Fault::NotLaidOut { statement, .. }
+        | Fault::DeepValue { statement }
+        | Fault::MovesBack { statement, .. } => push_number(out, "statement", *statement as u64),
+        Fault::BadHeader { index, .. } => push_number(out, "index", *index),
+        Fault::AssertFailed { line, .. } => push_number(out, "line", *line),
+        Fault::Unsupported { index } => push_number(out, "index", *index as u64),
+        _ => Ok(()),
     }
 }
 
-#[tactic(auto, unfolding(wild_plan_spec::specs::FaultText::fields_text))]
-fn push_fields(out: &mut String, fault: &Fault) -> Result<(), AllocError>
-    ensures { OnOk result (string_bytes out.new ≡ string_bytes out.old ++ fields_text fault.now) }
+// Appends the fields that say what else there is to a fault: names and numbers.
+#[tactic(auto, unfolding(wild_plan_spec::specs::FaultText::what_fields))]
+fn push_what(out: &mut String, fault: &Fault) -> Result<(), AllocError>
+    ensures { OnOk result (string_bytes out.new ≡ string_bytes out.old ++ what_fields fault.now) }
 {
     match fault {
-        Fault::Syntax { position } => push_number(out, "position", *position as u64),
-        Fault::UnclosedComment { position } => push_number(out, "position", *position as u64),
-        Fault::UnsupportedNestedSort { position } => push_number(out, "position", *position as u64),
-        Fault::TooDeep { position } => push_number(out, "position", *position as u64),
-        Fault::BadRow { row } => push_number(out, "row", *row as u64),
-        Fault::BadSymbolRow { symbol } => push_number(out, "symbol", *symbol),
-        Fault::BadDiscard { statement } => push_number(out, "statement", *statement as u64),
-        Fault::BadPattern { statement, name } => {
-            push_number(out, "statement", *statement as u64)?;
-            push_named(out, "name", name)
-        }
-        Fault::BadName { statement } => push_number(out, "statement", *statement as u64),
-        Fault::BadAlignment { statement, value } => {
-            push_number(out, "statement", *statement as u64)?;
-            push_number(out, "value", *value)
-        }
-        Fault::BadFill { statement, value } => {
-            push_number(out, "statement", *statement as u64)?;
-            push_number(out, "value", *value)
-        }
-        Fault::BadHeader { index, value } => {
-            push_number(out, "index", *index)?;
-            push_number(out, "value", *value)
-        }
-        Fault::NotConstant { statement } => push_number(out, "statement", *statement as u64),
-        Fault::DuplicateSection { name } => push_named(out, "name", name),
-        Fault::DuplicateSymbol { name } => push_named(out, "name", name),
-        Fault::DuplicateName { name } => push_named(out, "name", name),
-        Fault::OutputFormat { name } => push_named(out, "name", name),
-        Fault::UnknownRegion { name } => push_named(out, "name", name),
-        Fault::UnknownPhdr { name } => push_named(out, "name", name),
+        Fault::BadPattern { name, .. }
+        | Fault::DuplicateSection { name }
+        | Fault::DuplicateSymbol { name }
+        | Fault::DuplicateName { name }
+        | Fault::OutputFormat { name }
+        | Fault::UnknownRegion { name }
+        | Fault::UnknownPhdr { name }
+        | Fault::UnknownSection { name }
+        | Fault::UnknownSymbol { name }
+        | Fault::NotLaidOut { name, .. }
+        | Fault::SymbolCycle { name }
+        | Fault::BeforeSection { name } => push_named(out, "name", name),
+        Fault::BadAlignment { value, .. }
+        | Fault::BadFill { value, .. }
+        | Fault::BadHeader { value, .. } => push_number(out, "value", *value),
         Fault::TooManySections { count } => push_number(out, "count", *count),
         Fault::TooManySegments { segments } => push_number(out, "segments", *segments),
-        Fault::DivisionByZero { statement } => push_number(out, "statement", *statement as u64),
-        Fault::ModuloByZero { statement } => push_number(out, "statement", *statement as u64),
-        Fault::AlignZero { statement } => push_number(out, "statement", *statement as u64),
-        Fault::UnknownSection { name } => push_named(out, "name", name),
-        Fault::UnknownSymbol { name } => push_named(out, "name", name),
-        Fault::NotLaidOut { statement, name } => {
-            push_number(out, "statement", *statement as u64)?;
-            push_named(out, "name", name)
-        }
-        Fault::SymbolCycle { name } => push_named(out, "name", name),
-        Fault::DeepValue { statement } => push_number(out, "statement", *statement as u64),
-        Fault::BeforeSection { name } => push_named(out, "name", name),
-        Fault::MovesBack {
-            statement,
-            from,
-            to,
-        } => {
-            push_number(out, "statement", *statement as u64)?;
-            push_number(out, "from", *from)?;
-            push_number(out, "to", *to)
-        }
-        Fault::Overlap { first, second } => {
-            push_named(out, "first", first)?;
-            push_named(out, "second", second)
-        }
-        Fault::RegionFull { region, section } => {
-            push_named(out, "region", region)?;
-            push_named(out, "section", section)
-        }
-        Fault::Overflow { left, right } => {
-            push_number(out, "left", *left)?;
-            push_number(out, "right", *right)
-        }
-        Fault::AlignOverflow { value, align } => {
-            push_number(out, "value", *value)?;
-            push_number(out, "align", *align)
-        }
-        Fault::AssertFailed { line, message } => {
-            push_number(out, "line", *line)?;
-            push_named(out, "message", message)
-        }
-        Fault::NoMemory => Ok(()),
-        Fault::Unsupported { index } => push_number(out, "index", *index as u64),
+        Fault::MovesBack { from, to, .. } => push_numbers(out, "from", *from, "to", *to),
+        Fault::Overlap { first, second } => push_names(out, "first", first, "second", second),
+        Fault::RegionFull { region, section } => push_names(
+            out, "region", region, "section", section,
+        ),
+        Fault::Overflow { left, right } => push_numbers(out, "left", *left, "right", *right),
+        Fault::AlignOverflow { value, align } => push_numbers(
+            out, "value", *value, "align", *align,
+        ),
+        Fault::AssertFailed { message, .. } => push_named(out, "message", message),
+        _ => Ok(()),
     }
 }
 
 // Appends a field that is a number.
-#[tactic(auto, unfolding(wild_plan_spec::specs::FaultText::set_to))]
+#[tactic(auto, unfolding(wild_plan_spec::specs::FaultText::fault_field))]
 fn push_number(out: &mut String, word: &str, number: u64) -> Result<(), AllocError>
-    ensures { OnOk result (string_bytes out.new ≡ string_bytes out.old ++ set_to word.now (decimal number)) }
+    ensures { OnOk result (string_bytes out.new ≡ string_bytes out.old ++ fault_field word.now (decimal number)) }
 {
     write!(out, " {word}={number}")
 }
 
 // Appends a field that is a name.
-#[tactic(auto, unfolding(wild_plan_spec::specs::FaultText::set_to))]
+#[tactic(auto, unfolding(wild_plan_spec::specs::FaultText::fault_field))]
 fn push_named(out: &mut String, word: &str, name: &Name) -> Result<(), AllocError>
-    ensures { OnOk result (string_bytes out.new ≡ string_bytes out.old ++ set_to word.now (printed_name name.now)) }
+    ensures { OnOk result (string_bytes out.new ≡ string_bytes out.old ++ fault_field word.now (printed_name name.now)) }
 {
     write!(out, " {word}=")?;
     push_name(out, name.bytes())
+}
+
+fn push_numbers(
+    out: &mut String,
+    word: &str,
+    number: u64,
+    other_word: &str,
+    other: u64,
+) -> Result<(), AllocError>
+    ensures { OnOk result (string_bytes out.new ≡ string_bytes out.old ++ fault_field word.now (decimal number) ++ fault_field other_word.now (decimal other)) }
+{
+    push_number(out, word, number)?;
+    push_number(out, other_word, other)
+}
+
+fn push_names(
+    out: &mut String,
+    word: &str,
+    name: &Name,
+    other_word: &str,
+    other: &Name,
+) -> Result<(), AllocError>
+    ensures { OnOk result (string_bytes out.new ≡ string_bytes out.old ++ fault_field word.now (printed_name name.now) ++ fault_field other_word.now (printed_name other.now)) }
+{
+    push_named(out, word, name)?;
+    push_named(out, other_word, other)
 }

@@ -1,113 +1,194 @@
 use super::*;
-use sqlite_items::Items;
 use std::alloc::Global;
 use std::test::Fail;
-use wild_base::{Fault, InputFlags, Name, NoMemory, alignment};
-use wild_plan_spec::{PlacedInput, PlacedLocation, PlacedSection, PlacedSymbol, RowNames};
+use wild_base::{Alignment, Fault, InputFlags, Name, NoMemory, alignment};
+use wild_plan_spec::{Names, PlacedInput, PlacedLocation, PlacedSection, PlacedSymbol, RowNames};
 
-const LINES: &str =
-    "section .a 0x0000000000000000 0x0000000000000000 0x0000000000000010 8 A - - -\n\
-                     input 0 0x0000000000000000 .a f.o .text\n\
-                     location 3 0x0000000000000010\n\
-                     symbol x 0x0000000000000004 .a default\n\
-                     symbol - 0x0000000000000010 - hidden\n";
+// ---- names and addresses
+
+#[test]
+fn names(rt: HostRuntime) -> Result<(), Fail> {
+    let cases: [(&str, &[u8], &[u8]); 6] = [
+        ("visible bytes", b".a$~", b".a$~"),
+        ("a blank, a comma, a backslash", b" ,\\", b"\\x20\\x2c\\x5c"),
+        ("bytes above the visible ones", b"\x7f\xff", b"\\x7f\\xff"),
+        ("no bytes", b"", b"-"),
+        ("a dash alone", b"-", b"\\x2d"),
+        ("a dash among others", b"-a", b"-a"),
+    ];
+    for (case, name, text) in cases {
+        let printed = name_text(rt.alloc(), name)?;
+        assert_eq!(rt; printed.bytes(), text, "{case}");
+    }
+    Ok(())
+}
+
+#[test]
+fn addresses(rt: HostRuntime) -> Result<(), Fail> {
+    let cases: [(&str, u64, &[u8]); 3] = [
+        ("the lowest", 0, b"0x0000000000000000"),
+        ("letters", 0xab, b"0x00000000000000ab"),
+        ("the highest", u64::MAX, b"0xffffffffffffffff"),
+    ];
+    for (case, address, text) in cases {
+        let printed = address_text(rt.alloc(), address)?;
+        assert_eq!(rt; printed.bytes(), text, "{case}");
+    }
+    Ok(())
+}
+
+// ---- lines of plans
+
+fn section(
+    alloc: Global,
+    name: &[u8],
+    alignment: Alignment,
+    flags: InputFlags,
+) -> Result<PlacedSection, NoMemory> {
+    Ok(PlacedSection {
+        name: Name::new(alloc, name)?,
+        start: 0,
+        load: 0x20,
+        size: 0x10,
+        alignment,
+        flags,
+        fill: None,
+        region: None,
+        headers: Names::new(alloc),
+        counted: true,
+    })
+}
+
+fn full_section(alloc: Global) -> Result<PlacedSection, NoMemory> {
+    let mut section = section(alloc, b".b", alignment::MIN, InputFlags::WRITE)?;
+    section.fill = Some(0xab);
+    section.region = Some(Name::new(alloc, b"ram")?);
+    section.headers.push(Name::new(alloc, b"text")?)?;
+    section.headers.push(Name::new(alloc, b"-")?)?;
+    Ok(section)
+}
+
+const SECTIONS: &str =
+    "section .a 0x0000000000000000 0x0000000000000020 0x0000000000000010 8 A - - -
+section .b 0x0000000000000000 0x0000000000000020 0x0000000000000010 1 W 000000ab ram text,\\x2d
+";
+
+#[test]
+fn sections(rt: HostRuntime) -> Result<(), Fail> {
+    let alloc = rt.alloc();
+    let plain = section(alloc, b".a", alignment::USIZE, InputFlags::ALLOC)?;
+    let sections = [plain, full_section(alloc)?];
+    let text = lines_text(alloc, &sections, &[], &[], &[], &[])?;
+    assert_eq!(rt; text.bytes(), SECTIONS.as_bytes());
+    Ok(())
+}
+
+fn row(alloc: Global, section: &[u8]) -> Result<RowNames, NoMemory> {
+    Ok(RowNames {
+        file: Name::new(alloc, b"f.o")?,
+        section: Name::new(alloc, section)?,
+    })
+}
+
+const ROWS: &str = "input 0 0x0000000000000004 .a f.o .text\ndiscard 1 f.o -\n";
+
+#[test]
+fn rows(rt: HostRuntime) -> Result<(), Fail> {
+    let alloc = rt.alloc();
+    let sections = [section(alloc, b".a", alignment::MIN, InputFlags::ALLOC)?];
+    let kept = PlacedInput::Placed {
+        section: 0,
+        chunk: 1,
+        address: 4,
+    };
+    let names = [row(alloc, b".text")?, row(alloc, b"")?];
+    let lines = lines_text(alloc, &sections, &[], &[], &[], &[])?;
+    let placements = [kept, PlacedInput::Discarded];
+    let text = lines_text(alloc, &sections, &placements, &names, &[], &[])?;
+    assert_eq!(rt; &text.bytes()[lines.len()..], ROWS.as_bytes());
+    Ok(())
+}
+
+#[test]
+fn locations(rt: HostRuntime) -> Result<(), Fail> {
+    let location = PlacedLocation {
+        statement: 3,
+        address: 0x10,
+    };
+    let text = lines_text(rt.alloc(), &[], &[], &[], &[location], &[])?;
+    assert_eq!(rt; text.bytes(), b"location 3 0x0000000000000010\n".as_slice());
+    Ok(())
+}
 
 fn symbol(
     alloc: Global,
     name: &[u8],
-    address: u64,
     section: Option<usize>,
     hidden: bool,
 ) -> Result<PlacedSymbol, NoMemory> {
     Ok(PlacedSymbol {
         name: Name::new(alloc, name)?,
-        address,
+        address: 4,
         section,
         hidden,
     })
 }
 
-fn lines(alloc: Global) -> Result<Name, NoMemory> {
-    let section = PlacedSection {
-        name: Name::new(alloc, b".a")?,
-        start: 0,
-        load: 0,
-        size: 0x10,
-        alignment: alignment::USIZE,
-        flags: InputFlags::ALLOC,
-        fill: None,
-        region: None,
-        headers: Items::new(alloc),
-        counted: true,
-    };
-    let placed = PlacedInput::Placed {
-        section: 0,
-        chunk: 0,
-        address: 0,
-    };
-    let names = RowNames {
-        file: Name::new(alloc, b"f.o")?,
-        section: Name::new(alloc, b".text")?,
-    };
-    let location = PlacedLocation {
-        statement: 3,
-        address: 0x10,
-    };
-    let symbols = [
-        symbol(alloc, b"x", 4, Some(0), false)?,
-        symbol(alloc, b"", 0x10, None, true)?,
-    ];
-    lines_text(
-        alloc,
-        &[section],
-        &[placed],
-        &[names],
-        &[location],
-        &symbols,
-    )
-}
+const SYMBOLS: &str =
+    "symbol x 0x0000000000000004 .a default\nsymbol - 0x0000000000000004 - hidden\n";
 
 #[test]
-fn plan_lines(rt: HostRuntime) -> Result<(), Fail> {
-    let text = lines(rt.alloc())?;
-    assert_eq!(rt; text.bytes(), LINES.as_bytes());
-    Ok(())
-}
-
-#[test]
-fn names_and_addresses(rt: HostRuntime) -> Result<(), Fail> {
+fn symbols(rt: HostRuntime) -> Result<(), Fail> {
     let alloc = rt.alloc();
-    let names: [(&[u8], &[u8]); 3] = [
-        (b".a ,\\", b".a\\x20\\x2c\\x5c"),
-        (b"", b"-"),
-        (b"-", b"\\x2d"),
+    let sections = [section(alloc, b".a", alignment::MIN, InputFlags::ALLOC)?];
+    let lines = lines_text(alloc, &sections, &[], &[], &[], &[])?;
+    let symbols = [
+        symbol(alloc, b"x", Some(0), false)?,
+        symbol(alloc, b"", None, true)?,
     ];
-    for (name, expected) in names {
-        let text = name_text(alloc, name)?;
-        assert_eq!(rt; text.bytes(), expected);
-    }
-    let text = address_text(alloc, 0x10)?;
-    assert_eq!(rt; text.bytes(), b"0x0000000000000010".as_slice());
+    let text = lines_text(alloc, &sections, &[], &[], &[], &symbols)?;
+    assert_eq!(rt; &text.bytes()[lines.len()..], SYMBOLS.as_bytes());
     Ok(())
 }
+
+// ---- faults
 
 #[test]
 fn faults(rt: HostRuntime) -> Result<(), Fail> {
     let alloc = rt.alloc();
-    let text = fault_text(alloc, &Fault::Overflow { left: 8, right: 4 })?;
-    assert_eq!(rt;
-        text.bytes(),
-        b"fault 34 Overflow left=8 right=4".as_slice()
-    );
-    let fault = Fault::MovesBack {
-        statement: 2,
-        from: 8,
-        to: 4,
-    };
-    let text = fault_text(alloc, &fault)?;
-    assert_eq!(rt;
-        text.bytes(),
-        b"fault 31 MovesBack statement=2 from=8 to=4".as_slice()
-    );
+    let cases: [(&str, Fault, &[u8]); 5] = [
+        ("no field", Fault::NoMemory, b"fault 37 NoMemory"),
+        (
+            "a place",
+            Fault::Syntax { position: 7 },
+            b"fault 1 Syntax position=7",
+        ),
+        (
+            "a place and a name",
+            Fault::NotLaidOut {
+                statement: 2,
+                name: Name::new(alloc, b"-")?,
+            },
+            b"fault 27 NotLaidOut statement=2 name=\\x2d",
+        ),
+        (
+            "a place and two numbers",
+            Fault::MovesBack {
+                statement: 2,
+                from: 8,
+                to: 4,
+            },
+            b"fault 31 MovesBack statement=2 from=8 to=4",
+        ),
+        (
+            "the last number",
+            Fault::Unsupported { index: 0 },
+            b"fault 38 Unsupported index=0",
+        ),
+    ];
+    for (case, fault, text) in cases {
+        let printed = fault_text(alloc, &fault)?;
+        assert_eq!(rt; printed.bytes(), text, "{case}");
+    }
     Ok(())
 }

@@ -1,5 +1,5 @@
 use Rattle.std.proofs.Common.{◌≡◌, ◌++◌, drop}
-use Rattle.wild_fates.specs.Collected.{fates_by}
+use Rattle.wild_fates.specs.Decisions.{fates_by}
 use Rattle.wild_fates.proofs.fates.fates_by.Given as goal
 
 abbrev pub invariant-loop-i : goal.invariant-loop-i

@@ -4,7 +4,7 @@ use Rattle.std.proofs.lemmas.Result.{err_from_is_err_and}
 use Rattle.wild_eval.specs.Scope.{scope_of}
 use Rattle.wild_plan_spec.specs.Walk.{Stands}
 use Rattle.wild_plan.specs.Chunks.{rows_at}
-use Rattle.wild_fates.specs.Shown.{shown}
+use Rattle.wild_fates.specs.Shown.{shown_places}
 use Rattle.wild_plan_spec.proofs.Standing.{stands_first, stands_more, refuses_at}
 use Rattle.wild_fates.proofs.Shown.{shown_at, shown_length}
 use Rattle.wild_plan.proofs.walk.lay_out.Goals as goal
@@ -12,7 +12,7 @@ use Rattle.wild_plan.proofs.walk.lay_out.Goals as goal
 pub loop-number-init : goal.loop-number-init
 loop-number-init c =
     let given = c.args.given.now in
-    subst (λ s. Stands (scope_of given.scope.now) (rows_at given.chunks.now) (shown c.args.places.now) 0 s) (sym c.new-walk.ensures) (stands_first _ _ _)
+    subst (λ s. Stands (scope_of given.scope.now) (rows_at given.chunks.now) (shown_places c.args.places.now) 0 s) (sym c.new-walk.ensures) (stands_first _ _ _)
 
 pub loop-number-preserved : goal.loop-number-preserved
 loop-number-preserved c =
@@ -30,5 +30,5 @@ returns-in_err-step-clause-refused c =
 
 pub returns-clause-laid_out : goal.returns-clause-laid_out
 returns-clause-laid_out c =
-    let all : c.loop-number.number ≡ length (shown c.args.places.now) = omega (arith, c.loop-number.invariant.within, shown_length c.args.places.now, c.loop-number-test.false) in
+    let all : c.loop-number.number ≡ length (shown_places c.args.places.now) = omega (arith, c.loop-number.invariant.within, shown_length c.args.places.now, c.loop-number-test.false) in
     rw all at c.loop-number.invariant

@@ -1,7 +1,0 @@
-use Rattle.std.proofs.Common.{◌≡◌, ◌++◌, drop}
-use Rattle.wild_eval.specs.Addresses.{known_of}
-use Rattle.wild_plan_spec.specs.Layout.{table_symbols}
-use Rattle.wild_plan.proofs.listing.placed_symbols.Given as goal
-
-abbrev pub invariant-loop-symbol : goal.invariant-loop-symbol
-invariant-loop-symbol l = l.placed ++ table_symbols (known_of l.addresses) l.fates (drop l.symbol-index l.symbols) ≡ table_symbols (known_of l.addresses) l.fates l.symbols

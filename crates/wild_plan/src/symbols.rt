@@ -1,0 +1,186 @@
+//! The symbols that a plan lists: those of the table, and those of the script.
+
+ghost use Rattle.std.specs.Prelude.{◌≡◌, ◌++◌, OnOk, IfOk};
+ghost use Rattle.std.specs.Option.{option_map, option_to_list};
+ghost use Rattle.wild_eval.specs.Scope.{scope_of, shown_definition};
+ghost use Rattle.wild_eval.specs.Addresses.{known_of};
+ghost use Rattle.wild_plan_spec.specs.Symbols as spec;
+ghost use Rattle.wild_fates.specs.Shown.{shown_places, shown_task};
+ghost use Rattle.wild_value_spec.specs.Answer.{Returns};
+
+use crate::definitions::symbol_chunk;
+use crate::ends::End;
+use sqlite_items::Items;
+use std::alloc::{AllocError, Global};
+use wild_base::{Fault, Name, NoMemory};
+use wild_eval::{Addresses, Definition, Path};
+use wild_fates::{Place, Task};
+use wild_plan_spec::{Chunk, Kept, PlacedSymbol, SymbolRow};
+use wild_script::{Expression, ProvideSymbolDefinition};
+
+// ---- of the table
+
+// A symbol of the table, in the chunk of its row. No row passes 2 ^ 64, so the sum does not wrap.
+fn push_symbol(
+    alloc: Global,
+    symbols: &mut Items<PlacedSymbol>,
+    addresses: &Addresses,
+    symbol: &SymbolRow,
+    chunk: Option<Chunk>,
+) -> Result<(), NoMemory>
+    ensures { OnOk result (symbols.new ≡ symbols.old ++ spec.table_symbol (known_of addresses.now) symbol.now chunk) }
+{
+    let Some(chunk) = chunk else {
+        return Ok(());
+    };
+    let name = symbol.name.copy(alloc)?;
+    symbols.push(PlacedSymbol {
+        name,
+        address: addresses.address(symbol.row).wrapping_add(symbol.offset),
+        section: Some(chunk.section),
+        hidden: false,
+    })?;
+    Ok(())
+}
+
+/// The symbols of the table, in table order, by the fates of the rows.
+pub fn table_symbols(
+    alloc: Global,
+    addresses: &Addresses,
+    fates: &[Option<Kept>],
+    symbols: &[SymbolRow],
+) -> Result<Items<PlacedSymbol>, NoMemory>
+    ensures { IfOk result (λ placed. placed ≡ spec.table_symbols (known_of addresses.now) fates.now symbols.now) }
+{
+    let mut placed = Items::new(alloc);
+    for symbol in symbols {
+        push_symbol(
+            alloc,
+            &mut placed,
+            addresses,
+            symbol,
+            symbol_chunk(fates, symbol),
+        )?;
+    }
+    Ok(placed)
+}
+
+// ---- of the script
+
+// Whether the definition is the one at this place.
+fn is_at(place: usize, definition: Option<Definition<'_>>) -> bool
+    ensures { result ≡ spec.is_at place (option_map shown_definition definition.entry) }
+{
+    match definition {
+        Some(Definition::OfScript { point, .. }) => point.place == place,
+        _ => false,
+    }
+}
+
+fn push_listed(
+    found: &mut Items<PlacedSymbol>,
+    symbol: Option<PlacedSymbol>,
+) -> Result<(), AllocError>
+    ensures { OnOk result (found.new ≡ found.old ++ option_to_list symbol) }
+{
+    match symbol {
+        Some(symbol) => found.push(symbol),
+        None => Ok(()),
+    }
+}
+
+impl End<'_> {
+    // An expression has a value, and nothing is listed.
+    #[tactic(auto, unfolding(wild_plan_spec::specs::Symbols::unlisted))]
+    fn unlisted(&self, place: usize, expression: &Expression) -> Result<Option<PlacedSymbol>, Fault>
+        ensures { Returns result (spec.unlisted (scope_of self.now.scope.now) (known_of self.now.addresses.now) place expression.now) }
+    {
+        self.full(&Path::Start, place, expression)?;
+        Ok(None)
+    }
+
+    // A symbol with its value, which must not ask for itself.
+    #[tactic(auto, unfolding(wild_plan_spec::specs::Symbols::listed_symbol))]
+    fn listed_symbol(
+        &self,
+        place: usize,
+        name: &Name,
+        expression: &Expression,
+        hidden: bool,
+    ) -> Result<Option<PlacedSymbol>, Fault>
+        ensures { Returns result (spec.listed_symbol (scope_of self.now.scope.now) (known_of self.now.addresses.now) place name.now expression.now hidden) }
+    {
+        let address = self.full(&Path::Through(name, &Path::Start), place, expression)?;
+        Ok(Some(PlacedSymbol {
+            name: name.copy(self.alloc)?,
+            address,
+            section: None,
+            hidden,
+        }))
+    }
+
+    // An empty name is not listed.
+    #[tactic(auto, using(crate::proofs::Named::assigned_by_name))]
+    fn assignment_symbol(
+        &self,
+        place: usize,
+        name: &Name,
+        expression: &Expression,
+    ) -> Result<Option<PlacedSymbol>, Fault>
+        ensures { Returns result (spec.assignment_symbol (scope_of self.now.scope.now) (known_of self.now.addresses.now) place name.now expression.now) }
+    {
+        if name.is_empty() {
+            self.unlisted(place, expression)
+        } else {
+            self.listed_symbol(place, name, expression, false)
+        }
+    }
+
+    // Only where it is the definition that counts.
+    fn provide_symbol(
+        &self,
+        place: usize,
+        definition: &ProvideSymbolDefinition,
+    ) -> Result<Option<PlacedSymbol>, Fault>
+        ensures { Returns result (spec.provide_symbol (scope_of self.now.scope.now) (known_of self.now.addresses.now) place definition.now) }
+    {
+        if is_at(place, self.scope.definition(&definition.name)) {
+            self.listed_symbol(
+                place,
+                &definition.name,
+                &definition.value,
+                definition.hidden,
+            )
+        } else {
+            Ok(None)
+        }
+    }
+
+    #[tactic(auto, unfolding(wild_plan_spec::specs::Symbols::task_symbol))]
+    fn task_symbol(
+        &self,
+        place: usize,
+        task: Option<Task<'_>>,
+    ) -> Result<Option<PlacedSymbol>, Fault>
+        ensures { Returns result (spec.task_symbol (scope_of self.now.scope.now) (known_of self.now.addresses.now) place (shown_task task.entry)) }
+    {
+        match task {
+            Some(Task::Assign(name, expression)) => self.assignment_symbol(place, name, expression),
+            Some(Task::Provide(definition)) => self.provide_symbol(place, definition),
+            Some(Task::Locate(expression)) => self.unlisted(place, expression),
+            Some(Task::Check(_)) | None => Ok(None),
+        }
+    }
+
+    /// The symbols of the places, in text order.
+    pub fn symbols(&self, places: &[Place<'_>]) -> Result<Items<PlacedSymbol>, Fault>
+        ensures { Returns result (spec.symbols (scope_of self.now.scope.now) (known_of self.now.addresses.now) 0 (shown_places places.now)) }
+    {
+        let mut found = Items::new(self.alloc);
+        for (index, place) in places.iter().enumerate() {
+            let symbol = self.task_symbol(index, place.task())?;
+            push_listed(&mut found, symbol)?;
+        }
+        Ok(found)
+    }
+}
