@@ -1,4 +1,4 @@
-//! What is known of a layout.
+//! The addresses that are known of a layout so far.
 
 ghost use Rattle.std.specs.Prelude.{◌≡◌, ◌==◌, ℕ, Some, None, OnOk, if◌then◌else◌};
 ghost use Rattle.std.specs.Option.{unwrap_or};
@@ -8,16 +8,18 @@ ghost use Rattle.wild_eval.specs.Addresses.{known_at, known_of};
 use std::alloc::{AllocError, Global};
 use std::collections::BTreeMap;
 
-/// Numbers by the index of a section or a row.
+// Numbers by the index of a section, a row or a place.
 pub type Numbers = BTreeMap<usize, u64>;
 
-/// What is known of a layout.
+/// The addresses that are known of a layout so far.
 #[derive(Drop)]
 pub struct Addresses {
+    /// Where each section starts, is loaded and ends.
     pub starts: Numbers,
     pub loads: Numbers,
     pub ends: Numbers,
-    pub addresses: Numbers,
+    /// Where each row stands.
+    pub rows: Numbers,
     /// The location counter at each place.
     pub dots: Numbers,
 }
@@ -46,7 +48,7 @@ fn learn(known: &mut Numbers, index: usize, number: u64) -> Result<(), AllocErro
 }
 
 impl Addresses {
-    /// A table that knows nothing.
+    /// Nothing is known.
     pub fn new(alloc: Global) -> Addresses
         ensures { known_of result ≡ nothing }
     {
@@ -54,7 +56,7 @@ impl Addresses {
             starts: BTreeMap::new(alloc),
             loads: BTreeMap::new(alloc),
             ends: BTreeMap::new(alloc),
-            addresses: BTreeMap::new(alloc),
+            rows: BTreeMap::new(alloc),
             dots: BTreeMap::new(alloc),
         }
     }
@@ -84,7 +86,7 @@ impl Addresses {
     pub fn learn_address(&mut self, row: usize, number: u64) -> Result<(), AllocError>
         ensures { OnOk result (known_of self.new ≡ with_number (Address row) number (known_of self.old)) }
     {
-        learn(&mut self.addresses, row, number)
+        learn(&mut self.rows, row, number)
     }
 
     /// Keeps the location counter at a place, unless it is known.
@@ -95,35 +97,35 @@ impl Addresses {
     }
 
     /// Where a section starts, where that is known.
-    pub fn known_start(&self, section: usize) -> Option<u64>
+    pub(crate) fn known_start(&self, section: usize) -> Option<u64>
         ensures { result ≡ known_of self.now (Start section) }
     {
         number(&self.starts, section)
     }
 
     /// The load address of a section, where it is known.
-    pub fn known_load(&self, section: usize) -> Option<u64>
+    pub(crate) fn known_load(&self, section: usize) -> Option<u64>
         ensures { result ≡ known_of self.now (Load section) }
     {
         number(&self.loads, section)
     }
 
     /// Where a section ends, where that is known.
-    pub fn known_end(&self, section: usize) -> Option<u64>
+    pub(crate) fn known_end(&self, section: usize) -> Option<u64>
         ensures { result ≡ known_of self.now (End section) }
     {
         number(&self.ends, section)
     }
 
     /// The address of a row, where it is known.
-    pub fn known_address(&self, row: usize) -> Option<u64>
+    pub(crate) fn known_address(&self, row: usize) -> Option<u64>
         ensures { result ≡ known_of self.now (Address row) }
     {
-        number(&self.addresses, row)
+        number(&self.rows, row)
     }
 
     /// The location counter at a place, where it is known.
-    pub fn known_dot(&self, place: usize) -> Option<u64>
+    pub(crate) fn known_dot(&self, place: usize) -> Option<u64>
         ensures { result ≡ known_of self.now (Dot place) }
     {
         number(&self.dots, place)
@@ -154,6 +156,6 @@ impl Addresses {
     pub fn address(&self, row: usize) -> u64
         ensures { result ≡ number_at (known_of self.now) (Address row) }
     {
-        number_or_zero(&self.addresses, row)
+        number_or_zero(&self.rows, row)
     }
 }

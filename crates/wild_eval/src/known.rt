@@ -1,4 +1,4 @@
-//! What an evaluator's table knows, and the faults of what it does not.
+//! What is known of a layout, and the faults of what is not.
 
 ghost use Rattle.std.specs.Prelude.{Ok};
 ghost use Rattle.wild_eval.specs.Plain as spec;

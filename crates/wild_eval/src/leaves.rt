@@ -3,6 +3,7 @@
 ghost use Rattle.std.specs.Prelude.{◌≡◌, ◌<◌, ◌≤◌, ◌+◌, max, IfOk};
 ghost use Rattle.wild_eval.specs.Plain as spec;
 ghost use Rattle.wild_value_spec.specs.Answer.{Returns};
+ghost use Rattle.wild_value_spec.specs.Marks.{max_height};
 ghost use Rattle.wild_value_spec.specs.Value.{multiple_from, multiple_value, sum_of};
 
 use crate::arithmetic::{holds, truth};
@@ -85,8 +86,8 @@ impl Evaluator<'_> {
         x: Value,
         y: Value,
     ) -> Result<Value, Fault>
-        requires left_height { x.height < 1024 }
-        requires right_height { y.height < 1024 }
+        requires left_height { x.height < max_height }
+        requires right_height { y.height < max_height }
         ensures value { Returns result (spec.judgement self.now comparison point first x y) }
         ensures height { IfOk result (λ v. v.height ≡ max x.height y.height + 1) }
     {
@@ -98,8 +99,8 @@ impl Evaluator<'_> {
     #[tactic(auto, unfolding(wild_value_spec::specs::Value::multiple_value))]
     pub(crate) fn multiple_value(&self, align: Value, x: Value) -> Result<Value, Fault>
         requires nonzero { 0 < align.number }
-        requires align_height { align.height < 1024 }
-        requires value_height { x.height < 1024 }
+        requires align_height { align.height < max_height }
+        requires value_height { x.height < max_height }
         ensures value { Returns result (multiple_value align x) }
         ensures height { IfOk result (λ v. v.height ≡ max align.height x.height + 1) }
     {

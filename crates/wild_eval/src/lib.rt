@@ -11,11 +11,10 @@ mod named;
 mod plain;
 mod scope;
 
-pub use addresses::{Addresses, Numbers};
+pub use addresses::Addresses;
 pub use constant::{ConstFault, evaluate_const};
 pub use plain::Evaluator;
 pub use scope::{Definition, Path, Scope, SymbolEntry};
-pub use wild_value_spec::{Point, Value};
 
 #[cfg(test)]
 mod name_tests;

@@ -55,7 +55,7 @@ pub fn relatively(number: u64) -> Value
 
 /// An address over parts of this height.
 pub fn absolutely_over(number: u64, height: usize) -> Value
-    requires { height < 1024 }
+    requires { height < spec.max_height }
     ensures { result ≡ spec.absolutely_over number height }
 {
     Value {
@@ -68,7 +68,7 @@ pub fn absolutely_over(number: u64, height: usize) -> Value
 
 /// The same, counted from the start of a section.
 pub fn relatively_over(number: u64, height: usize) -> Value
-    requires { height < 1024 }
+    requires { height < spec.max_height }
     ensures { result ≡ spec.relatively_over number height }
 {
     Value {
@@ -81,7 +81,7 @@ pub fn relatively_over(number: u64, height: usize) -> Value
 
 /// A node over one part, with its marks.
 pub fn over(number: u64, part: Value) -> Value
-    requires { part.height < 1024 }
+    requires { part.height < spec.max_height }
     ensures { result ≡ spec.over number part }
 {
     Value {
@@ -94,8 +94,8 @@ pub fn over(number: u64, part: Value) -> Value
 
 /// A node over two parts, with the marks of both.
 pub fn over_both(number: u64, left: Value, right: Value) -> Value
-    requires left_height { left.height < 1024 }
-    requires right_height { right.height < 1024 }
+    requires left_height { left.height < spec.max_height }
+    requires right_height { right.height < spec.max_height }
     ensures { result ≡ spec.over_both number left right }
 {
     Value {
@@ -108,8 +108,8 @@ pub fn over_both(number: u64, left: Value, right: Value) -> Value
 
 /// A node over two parts, with no mark.
 pub fn unmarked_over(number: u64, left: Value, right: Value) -> Value
-    requires left_height { left.height < 1024 }
-    requires right_height { right.height < 1024 }
+    requires left_height { left.height < spec.max_height }
+    requires right_height { right.height < spec.max_height }
     ensures { result ≡ spec.unmarked_over number left right }
 {
     Value {

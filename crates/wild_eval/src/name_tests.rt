@@ -1,4 +1,4 @@
-use crate::{Addresses, Definition, Evaluator, Path, Point, Scope, SymbolEntry};
+use crate::{Addresses, Definition, Evaluator, Path, Scope, SymbolEntry};
 use sqlite_items::Boxed;
 use std::alloc::Global;
 use std::test::Fail;
@@ -6,6 +6,7 @@ use wild_base::alignment::USIZE;
 use wild_base::{Fault, Name, NoMemory};
 use wild_expression_tree::{AssertCommand, Expression};
 use wild_numbering::Numbering;
+use wild_value_spec::Point;
 
 type Tree = Boxed<Expression>;
 
@@ -57,23 +58,43 @@ fn negated(alloc: Global, part: Tree) -> Result<Tree, NoMemory> {
     Ok(Boxed::new(alloc, Expression::Negate(part))?)
 }
 
-fn sample(alloc: Global, index: usize) -> Result<Tree, NoMemory> {
-    match index {
-        0 => symbol(alloc, b"five"),
-        1 => symbol(alloc, b"a"),
-        2 => symbol(alloc, b"none"),
-        3 => symbol(alloc, b"row"),
-        4 => symbol(alloc, b"low"),
-        5 => sizeof(alloc, b".a"),
-        6 => sizeof(alloc, b".b"),
-        7 => alignof(alloc, b".a"),
-        8 => alignof(alloc, b".b"),
-        9 => addr(alloc, b".a"),
-        10 => addr(alloc, b".b"),
-        11 => loadaddr(alloc, b".a"),
-        12 => defined(alloc, b"low"),
-        13 => defined(alloc, b"none"),
-        _ => negated(alloc, symbol(alloc, b"five")?),
+// What is evaluated: `A` is the section there is, `B` one that is not.
+#[derive(Clone, Copy)]
+enum Sample {
+    Five,
+    MinusFive,
+    Circle,
+    Missing,
+    Row,
+    Low,
+    SizeofA,
+    SizeofB,
+    AlignofA,
+    AlignofB,
+    AddrA,
+    AddrB,
+    LoadaddrA,
+    LowDefined,
+    MissingDefined,
+}
+
+fn tree(alloc: Global, sample: Sample) -> Result<Tree, NoMemory> {
+    match sample {
+        Sample::Five => symbol(alloc, b"five"),
+        Sample::MinusFive => negated(alloc, symbol(alloc, b"five")?),
+        Sample::Circle => symbol(alloc, b"a"),
+        Sample::Missing => symbol(alloc, b"none"),
+        Sample::Row => symbol(alloc, b"row"),
+        Sample::Low => symbol(alloc, b"low"),
+        Sample::SizeofA => sizeof(alloc, b".a"),
+        Sample::SizeofB => sizeof(alloc, b".b"),
+        Sample::AlignofA => alignof(alloc, b".a"),
+        Sample::AlignofB => alignof(alloc, b".b"),
+        Sample::AddrA => addr(alloc, b".a"),
+        Sample::AddrB => addr(alloc, b".b"),
+        Sample::LoadaddrA => loadaddr(alloc, b".a"),
+        Sample::LowDefined => defined(alloc, b"low"),
+        Sample::MissingDefined => defined(alloc, b"none"),
     }
 }
 
@@ -115,11 +136,11 @@ fn number_of(fault: &Fault) -> u32 {
 fn answer(
     alloc: Global,
     evaluator: &Evaluator<'_>,
-    index: usize,
+    sample: Sample,
     question: Question,
     point: Point,
 ) -> Result<Result<u64, u32>, NoMemory> {
-    let tree = sample(alloc, index)?;
+    let tree = tree(alloc, sample)?;
     let found = match question {
         Question::Full => evaluator.full(&Path::Start, tree.get(), point),
         Question::Height(levels) => {
@@ -201,7 +222,7 @@ fn make_script(alloc: Global) -> Result<Script, NoMemory> {
 // `five` is `- - 5`, `a` is `b`, `b` is `a`; `row` and `low` are symbols of rows.
 fn ask(
     alloc: Global,
-    index: usize,
+    sample: Sample,
     question: Question,
     point: Point,
 ) -> Result<Result<u64, u32>, NoMemory> {
@@ -230,58 +251,71 @@ fn ask(
         addresses: &addresses,
         statement: 7,
     };
-    answer(alloc, &evaluator, index, question, point)
+    answer(alloc, &evaluator, sample, question, point)
 }
 
 #[test]
 fn symbols(rt: HostRuntime) -> Result<(), Fail> {
-    for (i, point, wanted) in [
-        (0, OUTSIDE, Ok(5)),
-        (0, INSIDE, Ok(5)),
-        (1, OUTSIDE, Err(28)),
-        (2, OUTSIDE, Err(26)),
-        (3, OUTSIDE, Ok(0x100c)),
-        (3, INSIDE, Ok(0x100c)),
-        (4, OUTSIDE, Ok(0xff4)),
-        (4, INSIDE, Err(30)),
+    for (name, sample, point, wanted) in [
+        ("of the script", Sample::Five, OUTSIDE, Ok(5)),
+        ("of the script, in a section", Sample::Five, INSIDE, Ok(5)),
+        ("one that needs itself", Sample::Circle, OUTSIDE, Err(28)),
+        ("no symbol", Sample::Missing, OUTSIDE, Err(26)),
+        ("of a row", Sample::Row, OUTSIDE, Ok(0x100c)),
+        ("of a row, in its section", Sample::Row, INSIDE, Ok(0x100c)),
+        (
+            "of a row before its section",
+            Sample::Low,
+            OUTSIDE,
+            Ok(0xff4),
+        ),
+        ("of a row before this section", Sample::Low, INSIDE, Err(30)),
     ] {
-        assert_eq!(rt; ask(rt.alloc(), i, Question::Full, point)?, wanted, "{i}");
+        assert_eq!(rt;
+            ask(rt.alloc(), sample, Question::Full, point)?,
+            wanted,
+            "{name}"
+        );
     }
     Ok(())
 }
 
 #[test]
 fn sections(rt: HostRuntime) -> Result<(), Fail> {
-    for (i, wanted) in [
-        (5, Ok(0x20)),
-        (6, Ok(0)),
-        (7, Ok(8)),
-        (8, Ok(0)),
-        (9, Ok(0x1000)),
-        (10, Err(25)),
-        (11, Ok(0x8000)),
-        (12, Ok(1)),
-        (13, Ok(0)),
+    for (name, sample, wanted) in [
+        ("SIZEOF", Sample::SizeofA, Ok(0x20)),
+        ("SIZEOF of no section", Sample::SizeofB, Ok(0)),
+        ("ALIGNOF", Sample::AlignofA, Ok(8)),
+        ("ALIGNOF of no section", Sample::AlignofB, Ok(0)),
+        ("ADDR", Sample::AddrA, Ok(0x1000)),
+        ("ADDR of no section", Sample::AddrB, Err(25)),
+        ("LOADADDR", Sample::LoadaddrA, Ok(0x8000)),
+        ("DEFINED", Sample::LowDefined, Ok(1)),
+        ("DEFINED of no symbol", Sample::MissingDefined, Ok(0)),
     ] {
-        assert_eq!(rt; ask(rt.alloc(), i, Question::Full, OUTSIDE)?, wanted, "{i}");
+        assert_eq!(rt;
+            ask(rt.alloc(), sample, Question::Full, OUTSIDE)?,
+            wanted,
+            "{name}"
+        );
     }
     Ok(())
 }
 
 #[test]
 fn heights(rt: HostRuntime) -> Result<(), Fail> {
-    for (i, levels, wanted) in [
-        (3, 1, Ok(1)),
-        (0, 4, Ok(4)),
-        (0, 3, Err(29)),
-        (14, 5, Ok(5)),
-        (14, 4, Err(29)),
+    for (name, sample, levels, wanted) in [
+        ("a row in one level", Sample::Row, 1, Ok(1)),
+        ("a symbol in four levels", Sample::Five, 4, Ok(4)),
+        ("a symbol in three levels", Sample::Five, 3, Err(29)),
+        ("one more level for a sign", Sample::MinusFive, 5, Ok(5)),
+        ("no level for a sign", Sample::MinusFive, 4, Err(29)),
     ] {
         let question = Question::Height(levels);
         assert_eq!(rt;
-            ask(rt.alloc(), i, question, OUTSIDE)?,
+            ask(rt.alloc(), sample, question, OUTSIDE)?,
             wanted,
-            "{i} {levels}"
+            "{name}"
         );
     }
     Ok(())
@@ -289,8 +323,16 @@ fn heights(rt: HostRuntime) -> Result<(), Fail> {
 
 #[test]
 fn conditions(rt: HostRuntime) -> Result<(), Fail> {
-    for (i, wanted) in [(0, Ok(5)), (13, Err(103)), (2, Err(26))] {
-        assert_eq!(rt; ask(rt.alloc(), i, Question::Test, OUTSIDE)?, wanted, "{i}");
+    for (name, sample, wanted) in [
+        ("one that holds", Sample::Five, Ok(5)),
+        ("0, in line 3", Sample::MissingDefined, Err(103)),
+        ("no symbol", Sample::Missing, Err(26)),
+    ] {
+        assert_eq!(rt;
+            ask(rt.alloc(), sample, Question::Test, OUTSIDE)?,
+            wanted,
+            "{name}"
+        );
     }
     Ok(())
 }

@@ -4,6 +4,7 @@ ghost use Rattle.std.specs.Prelude.{◌≡◌, ◌<◌, ◌≤◌, ◌+◌, IfOk
 ghost use Rattle.wild_names.specs.declared.fault.Fault.TheVariants as fault;
 ghost use Rattle.wild_eval.specs.Plain as spec;
 ghost use Rattle.wild_value_spec.specs.Answer.{Returns};
+ghost use Rattle.wild_value_spec.specs.Marks.{max_height};
 
 use crate::arithmetic::truth;
 use crate::marks::{absolutely, absolutely_over, relatively_over, unmarked};
@@ -118,7 +119,7 @@ impl Evaluator<'_> {
         height: usize,
         start: u64,
     ) -> Result<Value, Fault>
-        requires { height < 1024 }
+        requires { height < max_height }
         ensures value { Returns result (spec.from_start self.now name.now address height start) }
         ensures height { IfOk result (λ v. v.height ≡ height + 1) }
     {
@@ -139,7 +140,7 @@ impl Evaluator<'_> {
         section: usize,
         other: usize,
     ) -> Result<Value, Fault>
-        requires { height < 1024 }
+        requires { height < max_height }
         ensures value { Returns result (spec.symbol_value_in self.now name.now address height (Some section) (Some other)) }
         ensures height { IfOk result (λ v. v.height ≡ height + 1) }
     {
@@ -160,7 +161,7 @@ impl Evaluator<'_> {
         address: u64,
         height: usize,
     ) -> Result<Value, Fault>
-        requires { height < 1024 }
+        requires { height < max_height }
         ensures value { Returns result (spec.symbol_value self.now name.now section point address height) }
         ensures height { IfOk result (λ v. v.height ≡ height + 1) }
     {
@@ -172,7 +173,7 @@ impl Evaluator<'_> {
         }
     }
 
-    // A symbol of the table: so far behind the start of its row.
+    // A symbol of the table: so far after the start of its row.
     #[tactic(auto, unfolding(wild_value_spec::specs::Value::table_symbol))]
     pub(crate) fn table_symbol(
         &self,

@@ -1,4 +1,4 @@
-//! Values by plain recursion over trees.
+//! Evaluators, which work by plain recursion over trees.
 
 ghost use Rattle.std.specs.Prelude.{◌≡◌, ◌<◌, ◌≤◌, ◌+◌, IfOk};
 ghost use Rattle.wild_eval.specs.Plain as spec;
@@ -6,6 +6,7 @@ ghost use Rattle.wild_eval.specs.Scope.{path_of, scope_of, shown_definition};
 ghost use Rattle.wild_eval.specs.Addresses.{known_of};
 ghost use Rattle.wild_expression_tree.specs.Shape.{seen_held};
 ghost use Rattle.wild_value_spec.specs.Answer.{Returns};
+ghost use Rattle.wild_value_spec.specs.Marks.{max_height};
 ghost use Rattle.wild_value_spec.specs.Value as value;
 
 use crate::addresses::Addresses;
@@ -22,7 +23,7 @@ use wild_value_spec::{Point, Value};
 /// The largest height of a value.
 const MAX_HEIGHT: usize = 1024;
 
-/// Reads expressions over what is known of a layout, at the turn of a statement.
+/// Evaluates the expressions of a statement over what is known of a layout.
 #[derive(Drop)]
 pub struct Evaluator<'a> {
     pub alloc: Global,
@@ -52,7 +53,7 @@ impl Evaluator<'_> {
     /// The number that an expression stands for at a point.
     #[tactic(auto, unfolding(wild_value_spec::specs::Value::full))]
     pub fn full(&self, path: &Path<'_>, expression: &Expression, point: Point) -> Result<u64, Fault>
-        ensures { Returns result (value.full (scope_of self.now.scope.now) self.now.statement (known_of self.now.addresses.now) 1024 (path_of path.now) expression.now point) }
+        ensures { Returns result (value.full_value (scope_of self.now.scope.now) self.now.statement (known_of self.now.addresses.now) (path_of path.now) expression.now point) }
     {
         let value = self.value(MAX_HEIGHT, path, expression, point)?;
         self.full_number(point, value)
@@ -69,14 +70,14 @@ impl Evaluator<'_> {
     /// The value of an expression at a point, where this many levels are left.
     #[cycle(evaluation)]
     #[tactic(auto, unfolding(wild_value_spec::specs::Value::value))]
-    pub fn value(
+    pub(crate) fn value(
         &self,
         levels: usize,
         path: &Path<'_>,
         expression: &Expression,
         point: Point,
     ) -> Result<Value, Fault>
-        requires { levels ≤ 1024 }
+        requires { levels ≤ max_height }
         ensures value { Returns result (value.value (scope_of self.now.scope.now) self.now.statement (known_of self.now.addresses.now) levels (path_of path.now) expression.now point) }
         ensures height { IfOk result (λ v. v.height ≤ levels) }
     {
@@ -96,7 +97,7 @@ impl Evaluator<'_> {
         tree: &Expression,
         point: Point,
     ) -> Result<Value, Fault>
-        requires { levels < 1024 }
+        requires { levels < max_height }
         ensures value { Returns result (spec.node self.now levels (path_of path.now) tree.now point) }
         ensures height { IfOk result (λ v. v.height ≤ levels + 1) }
     {
@@ -129,7 +130,7 @@ impl Evaluator<'_> {
         b: &Expression,
         point: Point,
     ) -> Result<Value, Fault>
-        requires { levels < 1024 }
+        requires { levels < max_height }
         ensures value { Returns result (spec.arithmetic_value self.now levels (path_of path.now) operator a.now b.now point) }
         ensures height { IfOk result (λ v. v.height ≤ levels + 1) }
     {
@@ -150,7 +151,7 @@ impl Evaluator<'_> {
         b: &Expression,
         point: Point,
     ) -> Result<Value, Fault>
-        requires { levels < 1024 }
+        requires { levels < max_height }
         ensures value { Returns result (spec.division_value self.now levels (path_of path.now) operator a.now b.now point) }
         ensures height { IfOk result (λ v. v.height ≤ levels + 1) }
     {
@@ -174,7 +175,7 @@ impl Evaluator<'_> {
         b: &Expression,
         point: Point,
     ) -> Result<Value, Fault>
-        requires { levels < 1024 }
+        requires { levels < max_height }
         ensures value { Returns result (spec.comparison_value self.now levels (path_of path.now) comparison a.now b.now point) }
         ensures height { IfOk result (λ v. v.height ≤ levels + 1) }
     {
@@ -196,7 +197,7 @@ impl Evaluator<'_> {
         b: &Expression,
         point: Point,
     ) -> Result<Value, Fault>
-        requires { levels < 1024 }
+        requires { levels < max_height }
         ensures value { Returns result (spec.connective_value self.now levels (path_of path.now) operator a.now b.now point) }
         ensures height { IfOk result (λ v. v.height ≤ levels + 1) }
     {
@@ -219,7 +220,7 @@ impl Evaluator<'_> {
         a: &Expression,
         point: Point,
     ) -> Result<Value, Fault>
-        requires { levels < 1024 }
+        requires { levels < max_height }
         ensures value { Returns result (spec.unary_value self.now levels (path_of path.now) operator a.now point) }
         ensures height { IfOk result (λ v. v.height ≤ levels + 1) }
     {
@@ -239,7 +240,7 @@ impl Evaluator<'_> {
         b: &Expression,
         point: Point,
     ) -> Result<Value, Fault>
-        requires { levels < 1024 }
+        requires { levels < max_height }
         ensures value { Returns result (spec.ternary_value self.now levels (path_of path.now) condition.now a.now b.now point) }
         ensures height { IfOk result (λ v. v.height ≤ levels + 1) }
     {
@@ -259,7 +260,7 @@ impl Evaluator<'_> {
         held: Option<&Expression>,
         point: Point,
     ) -> Result<Value, Fault>
-        requires { levels < 1024 }
+        requires { levels < max_height }
         ensures value { Returns result (spec.align_value self.now levels (path_of path.now) alignment.now (seen_held held.entry) point) }
         ensures height { IfOk result (λ v. v.height ≤ levels + 1) }
     {
@@ -282,7 +283,7 @@ impl Evaluator<'_> {
         held: Option<&Expression>,
         point: Point,
     ) -> Result<Value, Fault>
-        requires { levels < 1024 }
+        requires { levels < max_height }
         ensures value { Returns result (spec.subject self.now levels (path_of path.now) (seen_held held.entry) point) }
         ensures height { IfOk result (λ v. v.height ≤ levels) }
     {
@@ -302,7 +303,7 @@ impl Evaluator<'_> {
         name: &Name,
         point: Point,
     ) -> Result<Value, Fault>
-        requires { levels < 1024 }
+        requires { levels < max_height }
         ensures value { Returns result (spec.symbol self.now levels (path_of path.now) name.now point) }
         ensures height { IfOk result (λ v. v.height ≤ levels + 1) }
     {
@@ -326,7 +327,7 @@ impl Evaluator<'_> {
         definition: Definition<'_>,
         point: Point,
     ) -> Result<Value, Fault>
-        requires { levels < 1024 }
+        requires { levels < max_height }
         ensures value { Returns result (spec.symbol_by self.now levels (path_of path.now) name.now (shown_definition definition.entry) point) }
         ensures height { IfOk result (λ v. v.height ≤ levels + 1) }
     {
@@ -354,7 +355,7 @@ impl Evaluator<'_> {
         own: Point,
         point: Point,
     ) -> Result<Value, Fault>
-        requires { levels < 1024 }
+        requires { levels < max_height }
         ensures value { Returns result (spec.script_symbol self.now levels (path_of path.now) name.now expression.now own point) }
         ensures height { IfOk result (λ v. v.height ≤ levels + 1) }
     {
@@ -374,7 +375,7 @@ impl Evaluator<'_> {
         command: &AssertCommand,
         point: Point,
     ) -> Result<Value, Fault>
-        requires { levels < 1024 }
+        requires { levels < max_height }
         ensures value { Returns result (spec.assert_value self.now levels (path_of path.now) command.now.expression command.now.message command.now.at point) }
         ensures height { IfOk result (λ v. v.height ≤ levels + 1) }
     {

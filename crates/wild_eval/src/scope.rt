@@ -14,7 +14,7 @@ use wild_value_spec::Point;
 /// What a symbol is.
 #[derive(Clone, Copy)]
 pub enum Definition<'a> {
-    /// So many bytes behind the start of a row, which stands in a section.
+    /// So many bytes after the start of a row of a section.
     OfRow {
         row: usize,
         offset: u64,
@@ -60,7 +60,7 @@ pub enum Path<'a> {
 
 impl<'a> Scope<'a> {
     /// The number of the section of this name.
-    pub fn section(&self, name: &Name) -> Option<usize>
+    pub(crate) fn section(&self, name: &Name) -> Option<usize>
         ensures { result ≡ (scope_of self.now).«section» name.now }
     {
         self.section_numbers.get(name)
@@ -110,7 +110,7 @@ impl<'a> Scope<'a> {
 
     /// The line of a position of the script: 1, and one more for each newline before it.
     #[tactic(auto, unfolding(wild_value_spec::specs::Scope::line_of))]
-    pub fn line(&self, position: usize) -> u64
+    pub(crate) fn line(&self, position: usize) -> u64
         ensures { result ≡ line_of self.now.script.now position }
     {
         let before = &self.script[..position.min(self.script.len())];
@@ -120,7 +120,7 @@ impl<'a> Scope<'a> {
 
 impl Path<'_> {
     /// Whether a symbol is being evaluated.
-    pub fn has(&self, name: &Name) -> bool
+    pub(crate) fn has(&self, name: &Name) -> bool
         ensures { result ≡ is_on name.now (path_of self.now) }
     {
         match self {

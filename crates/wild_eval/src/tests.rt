@@ -1,10 +1,11 @@
-use crate::{Addresses, ConstFault, Evaluator, Path, Point, Scope, evaluate_const};
+use crate::{Addresses, ConstFault, Evaluator, Path, Scope, evaluate_const};
 use sqlite_items::Boxed;
 use std::alloc::Global;
 use std::test::Fail;
 use wild_base::{Alignment, Name, NoMemory};
 use wild_expression_tree::Expression;
 use wild_numbering::Numbering;
+use wild_value_spec::Point;
 
 type Tree = Boxed<Expression>;
 
@@ -103,44 +104,79 @@ fn counter_compared(alloc: Global) -> Result<Tree, NoMemory> {
     equal(alloc, left, right)
 }
 
-fn sample(alloc: Global, index: usize) -> Result<Tree, NoMemory> {
-    match index {
-        0 => shift(alloc, 1, 64),
-        1 => difference(alloc, 0, 1),
-        2 => least_by_minus_one(alloc),
-        3 => bits_compared(alloc),
-        4 => negative_remainder(alloc),
-        5 => and_counter(alloc, 0),
-        6 => choice(alloc, 5),
-        7 => choice(alloc, 0),
-        8 => counter_by_zero(alloc),
-        9 => remainder_of_zero(alloc),
-        10 => counter(alloc),
-        11 => number(alloc, 5),
-        12 => align(alloc, 0),
-        13 => align(alloc, 8),
-        14 => align_high(alloc),
-        _ => counter_compared(alloc),
+// What is evaluated.
+#[derive(Clone, Copy)]
+enum Sample {
+    Five,
+    Counter,
+    ShiftBy64,
+    ZeroMinusOne,
+    LeastByMinusOne,
+    BitsCompared,
+    NegativeRemainder,
+    RemainderOfZero,
+    CounterByZero,
+    FalseAndCounter,
+    FirstOfTwo,
+    SecondOfTwo,
+    AlignZero,
+    AlignEight,
+    AlignHigh,
+    CounterCompared,
+}
+
+fn tree(alloc: Global, sample: Sample) -> Result<Tree, NoMemory> {
+    match sample {
+        Sample::Five => number(alloc, 5),
+        Sample::Counter => counter(alloc),
+        Sample::ShiftBy64 => shift(alloc, 1, 64),
+        Sample::ZeroMinusOne => difference(alloc, 0, 1),
+        Sample::LeastByMinusOne => least_by_minus_one(alloc),
+        Sample::BitsCompared => bits_compared(alloc),
+        Sample::NegativeRemainder => negative_remainder(alloc),
+        Sample::RemainderOfZero => remainder_of_zero(alloc),
+        Sample::CounterByZero => counter_by_zero(alloc),
+        Sample::FalseAndCounter => and_counter(alloc, 0),
+        Sample::FirstOfTwo => choice(alloc, 5),
+        Sample::SecondOfTwo => choice(alloc, 0),
+        Sample::AlignZero => align(alloc, 0),
+        Sample::AlignEight => align(alloc, 8),
+        Sample::AlignHigh => align_high(alloc),
+        Sample::CounterCompared => counter_compared(alloc),
     }
 }
 
+const NOT_CONSTANT: Result<u64, ConstFault> = Err(ConstFault::NotConstant);
+
 #[test]
 fn constants(rt: HostRuntime) -> Result<(), Fail> {
-    for (i, wanted) in [
-        (0, Ok(1)),
-        (1, Ok(18446744073709551615)),
-        (2, Ok(0x8000000000000000)),
-        (3, Ok(1)),
-        (4, Ok(18446744073709551615)),
-        (5, Ok(0)),
-        (6, Ok(8)),
-        (7, Err(ConstFault::NotConstant)),
-        (8, Err(ConstFault::DivisionByZero)),
-        (9, Err(ConstFault::ModuloByZero)),
-        (13, Err(ConstFault::NotConstant)),
+    for (name, sample, wanted) in [
+        ("a shift by 64 is one by 0", Sample::ShiftBy64, Ok(1)),
+        ("a difference wraps", Sample::ZeroMinusOne, Ok(u64::MAX)),
+        ("a quotient wraps", Sample::LeastByMinusOne, Ok(1 << 63)),
+        ("& binds before ==", Sample::BitsCompared, Ok(1)),
+        (
+            "a remainder is signed",
+            Sample::NegativeRemainder,
+            Ok(u64::MAX),
+        ),
+        ("&& by its left side", Sample::FalseAndCounter, Ok(0)),
+        ("the chosen side", Sample::FirstOfTwo, Ok(8)),
+        ("the counter is chosen", Sample::SecondOfTwo, NOT_CONSTANT),
+        (
+            "the divisor comes first",
+            Sample::CounterByZero,
+            Err(ConstFault::DivisionByZero),
+        ),
+        (
+            "a remainder of 0",
+            Sample::RemainderOfZero,
+            Err(ConstFault::ModuloByZero),
+        ),
+        ("ALIGN", Sample::AlignEight, NOT_CONSTANT),
     ] {
-        let tree = sample(rt.alloc(), i)?;
-        assert_eq!(rt; evaluate_const(tree.get()), wanted, "{i}");
+        let tree = tree(rt.alloc(), sample)?;
+        assert_eq!(rt; evaluate_const(tree.get()), wanted, "{name}");
     }
     Ok(())
 }
@@ -155,8 +191,8 @@ fn learn(alloc: Global) -> Result<Addresses, NoMemory> {
 }
 
 // What a statement reads at a place, or the number of its fault.
-fn read(alloc: Global, index: usize, point: Point) -> Result<Result<u64, u32>, NoMemory> {
-    let tree = sample(alloc, index)?;
+fn read(alloc: Global, sample: Sample, point: Point) -> Result<Result<u64, u32>, NoMemory> {
+    let tree = tree(alloc, sample)?;
     let addresses = learn(alloc)?;
     let name = Name::new(alloc, b".a")?;
     let numbers = Numbering::new(alloc);
@@ -181,28 +217,76 @@ fn read(alloc: Global, index: usize, point: Point) -> Result<Result<u64, u32>, N
 }
 
 #[test]
-fn full_values(rt: HostRuntime) -> Result<(), Fail> {
-    for (i, place, section, wanted) in [
-        (10, 2, None, Ok(0x2001)),
-        (10, 1, Some(0), Ok(0x1003)),
-        (10, 3, Some(0), Err(27)),
-        (11, 2, None, Ok(5)),
-        (11, 1, Some(0), Ok(0x1005)),
-        (11, 1, Some(1), Err(27)),
-        (12, 2, None, Err(24)),
-        (13, 2, None, Ok(0x2008)),
-        (13, 1, Some(0), Ok(0x1008)),
-        (14, 2, None, Err(35)),
-        (15, 2, None, Ok(0)),
+fn full_values_outside(rt: HostRuntime) -> Result<(), Fail> {
+    for (name, sample, wanted) in [
+        ("the counter", Sample::Counter, Ok(0x2001)),
+        ("a number", Sample::Five, Ok(5)),
+        ("ALIGN of the counter", Sample::AlignEight, Ok(0x2008)),
+        ("ALIGN by 0", Sample::AlignZero, Err(24)),
+        ("ALIGN past the last multiple", Sample::AlignHigh, Err(35)),
+        ("a comparison that fails", Sample::CounterCompared, Ok(0)),
+        ("a remainder of 0", Sample::RemainderOfZero, Err(23)),
+        ("a quotient wraps", Sample::LeastByMinusOne, Ok(1 << 63)),
+        ("the counter is chosen", Sample::SecondOfTwo, Ok(0x2001)),
+    ] {
+        let point = Point {
+            place: 2,
+            section: None,
+        };
+        assert_eq!(rt; read(rt.alloc(), sample, point)?, wanted, "{name}");
+    }
+    Ok(())
+}
+
+#[test]
+fn full_values_in_a_section(rt: HostRuntime) -> Result<(), Fail> {
+    for (name, sample, wanted) in [
+        ("the counter", Sample::Counter, Ok(0x1003)),
+        ("a number counts from its start", Sample::Five, Ok(0x1005)),
+        ("ALIGN of the counter", Sample::AlignEight, Ok(0x1008)),
         // Both sides stand for 0x1003, and the answer 1 for 0x1001.
-        (15, 1, Some(0), Ok(0x1001)),
-        (8, 3, None, Err(22)),
-        (9, 2, None, Err(23)),
-        (2, 2, None, Ok(0x8000000000000000)),
-        (7, 2, None, Ok(0x2001)),
+        (
+            "a comparison that holds",
+            Sample::CounterCompared,
+            Ok(0x1001),
+        ),
+    ] {
+        let point = Point {
+            place: 1,
+            section: Some(0),
+        };
+        assert_eq!(rt; read(rt.alloc(), sample, point)?, wanted, "{name}");
+    }
+    Ok(())
+}
+
+#[test]
+fn not_laid_out(rt: HostRuntime) -> Result<(), Fail> {
+    for (name, sample, place, section, wanted) in [
+        (
+            "a place without a counter",
+            Sample::Counter,
+            3,
+            Some(0),
+            Err(27),
+        ),
+        (
+            "a section without a start",
+            Sample::Five,
+            1,
+            Some(1),
+            Err(27),
+        ),
+        (
+            "the divisor comes first",
+            Sample::CounterByZero,
+            3,
+            None,
+            Err(22),
+        ),
     ] {
         let point = Point { place, section };
-        assert_eq!(rt; read(rt.alloc(), i, point)?, wanted, "{i} {place}");
+        assert_eq!(rt; read(rt.alloc(), sample, point)?, wanted, "{name}");
     }
     Ok(())
 }

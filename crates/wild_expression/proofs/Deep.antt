@@ -1,4 +1,4 @@
--- How deep what a reader reads is, and within which limits it stands.
+-- How deep what a reader reads is, and within which limits it is read.
 use Rattle.std.proofs.Common.{ℕ, ◌+◌, ◌≤◌, ◌<◌, max, Bool, sym, subst, arith}
 use Rattle.wild_reading.specs.Position.{Bytes}
 use Rattle.wild_reading.specs.Reader.{Reader, Then, Give, Choice, yes, no}
@@ -16,7 +16,7 @@ Below n P = (k : Level) (b : Bytes) (i : ℕ) (y : Measured) (j : ℕ) → P k b
 abbrev pub Lends : ℕ → ℕ → Values → Values → Type 0
 Lends n m P Q = (k : Level) (b : Bytes) (i : ℕ) (y : Measured) (j : ℕ) → P k b n i y j → y.depth < m → Q k b m i y j
 
--- what is made of such readers is at least d deep, at most as the limit, and stands within each limit that its depth allows
+-- what is made of such readers is at least d deep, at most as the limit, and is read within each limit that its depth allows
 pub record AreDeep (n d : ℕ) (F : Values → Reader Measured) : Type 1 where
   pub floor : (P : Values) → Below n P → (b : Bytes) (i : ℕ) (y : Measured) (j : ℕ) → F P b n i y j → d ≤ y.depth
   pub bound : (P : Values) → Below n P → (b : Bytes) (i : ℕ) (y : Measured) (j : ℕ) → F P b n i y j → y.depth ≤ n

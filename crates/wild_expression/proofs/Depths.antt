@@ -1,4 +1,4 @@
--- Each part of an expression is as deep as its limit allows, and stands within each limit that its depth allows.
+-- Each part of an expression is as deep as its limit allows, and is read within each limit that its depth allows.
 use Rattle.std.proofs.Common.{ℕ, zero, suc, ◌≤◌, arith}
 use Rattle.wild_reading.specs.Position.{Bytes}
 use Rattle.wild_reading.specs.Reader.{Reader}
@@ -9,11 +9,11 @@ use Rattle.wild_expression_words.specs.declared.operators.Level.TheVariants as l
 use Rattle.wild_expression_words.specs.declared.words.Call.{Call}
 use Rattle.wild_expression_words.specs.declared.words.Call.TheVariants as c
 use Rattle.wild_expression_words.specs.declared.words.Extreme.{Extreme}
-use Rattle.wild_expression_words.specs.declared.words.Question.{Question}
+use Rattle.wild_expression_tree.specs.declared.operator.Question.{Question}
 use Rattle.wild_expression_words.specs.declared.words.Head.{Head}
 use Rattle.wild_expression_words.specs.declared.words.Head.TheVariants as h
 use Rattle.wild_expression.specs.declared.measured.Measured.{Measured}
-use Rattle.wild_expression.specs.Grammar.{Values, question, brackets_of, pair_of, align_counter, align_value_of, align_rest_of, align_of, segment_start_of, assert_of, arguments_of, behind_of, primary_of, signed_of, signed_or_primary_of, sign_of, step_of, chain_of, alone, comparison_of, alternatives_of, ternary_of, rest_of, layer_of, product_of, sum_of, shift_of, bitwise_and_of, bitwise_xor_of, bitwise_or_of, compared_of, logical_and_of, logical_or_of, whole_of, value_of, inner_value, value}
+use Rattle.wild_expression.specs.Grammar.{Values, question, brackets_of, pair_of, align_counter, align_value_of, align_rest_of, align_of, segment_start_of, assert_of, arguments_of, after_head_of, primary_of, unary_of, unary_or_primary_of, sign_of, step_of, chain_of, alone, comparison_of, alternatives_of, ternary_of, rest_of, layer_of, product_of, sum_of, shift_of, bitwise_and_of, bitwise_xor_of, bitwise_or_of, comparison_level_of, logical_and_of, logical_or_of, whole_of, value_of, inner_value, value}
 use Rattle.wild_expression.specs.Depths.{DepthsAreBudgets}
 use Rattle.wild_expression_words.specs.Dialect.{first_grammar}
 use Rattle.wild_expression.proofs.Free.{here_free, white_free, byte_free, gap_free, name_free, symbol_free, close_free, segment_free, identifier_free, operator_free, sign_free, head_free}
@@ -55,16 +55,16 @@ module _ (n : ℕ) where
   arguments_deep c.SegmentStart = segment_start_deep
   arguments_deep c.Assert = assert_deep
 
-  behind_deep : (begin : Head) → AreDeep n 0 (λ R. behind_of first_grammar R begin)
-  unfolding behind_of
-  behind_deep (h.Whole x) = give_deep (omega arith) (omega arith)
-  behind_deep (h.Before call) = arguments_deep call
+  after_head_deep : (begin : Head) → AreDeep n 0 (λ R. after_head_of first_grammar R begin)
+  unfolding after_head_of
+  after_head_deep (h.Whole x) = give_deep (omega arith) (omega arith)
+  after_head_deep (h.Before call) = arguments_deep call
 
   sign_deep : AreDeep n 0 (sign_of first_grammar)
-  unfolding sign_of signed_or_primary_of signed_of primary_of
+  unfolding sign_of unary_or_primary_of unary_of primary_of
   sign_deep = then_fixed white_free (λ _. choice_deep
       (then_fixed sign_free (λ s. then_inner l.Sign (λ x e. give_deep (omega arith) (omega (arith, e)))))
-      (then_fixed head_free behind_deep))
+      (then_fixed head_free after_head_deep))
 
   step_deep : {d : ℕ} (level : Level) (x : Measured) → d ≤ x.depth → AreDeep n d (λ R. step_of R level x)
   unfolding step_of
@@ -126,8 +126,8 @@ module _ (n : ℕ) where
   unfolding bitwise_or_of
   bitwise_or_deep = layer_deep l.BitwiseOr bitwise_xor_deep
 
-  compared_deep : AreDeep n 0 (compared_of first_grammar)
-  unfolding compared_of
+  compared_deep : AreDeep n 0 (comparison_level_of first_grammar)
+  unfolding comparison_level_of
   compared_deep = layer_deep l.Comparison bitwise_or_deep
 
   logical_and_deep : AreDeep n 0 (logical_and_of first_grammar)
@@ -185,14 +185,6 @@ back level b limit i x j m h e = (value_deep m level).keeps limit (InsideAt (val
 
 pub budgets : DepthsAreBudgets
 budgets level b limit i x j = (λ h. ((limit, h), into level b limit i x j h), λ h. back level b limit i x j h.0.0 h.0.1 h.1)
-
--- what stands within a limit stands within each greater one
-pub value_rises : (level : Level) (b : Bytes) (limit m i : ℕ) (x : Measured) (j : ℕ) → limit ≤ m → value level b limit i x j → value level b m i x j
-value_rises level b limit m i x j e h = back level b m i x j limit h (omega (arith, e, into level b limit i x j h))
-
-pub inner_rises : (level : Level) (b : Bytes) (limit m i : ℕ) (x : Measured) (j : ℕ) → limit ≤ m → inner_value level b limit i x j → inner_value level b m i x j
-unfolding inner_value
-inner_rises level b limit m i x j e h = inside_lends limit m level b i x j h (omega (arith, e, inside_below limit level b i x j h))
 
 -- ---- the inner reader is the outer one, one deeper
 

@@ -3,13 +3,16 @@ use Rattle.std.proofs.Common.{ℕ, Bool, List}
 use Rattle.std.specs.Prelude.{Option, Some, None}
 use Rattle.wild_reading.specs.Position.{Bytes}
 use Rattle.wild_reading.specs.Reader.{Reader, Then, Give, here, Ahead, Nothing, Passes, Takes, Choice, yes, no, Until, none, more}
-use Rattle.wild_reading.specs.Lex.{white, byte, gap, quoted, quoted_token, token, word, name, symbol}
+use Rattle.wild_reading.specs.Lex.{white, byte, gap, run, quoted, quoted_token, token, word, name, symbol}
 use Rattle.wild_expression_words.specs.declared.operators.Level.{Level}
 use Rattle.wild_expression_words.specs.declared.words.Call.{Call}
 use Rattle.wild_expression_words.specs.Operators.{operator, sign}
 use Rattle.wild_expression_words.specs.Dialect.{first_grammar}
+use Rattle.wild_expression_words.specs.Identifier.{identifier}
+use Rattle.wild_expression_words.specs.Literal.{literal}
+use Rattle.wild_expression_words.specs.Quotes.{quoted_name}
 use Rattle.wild_expression_words.specs.Words as words
-use Rattle.wild_expression.specs.Grammar.{close, segment_word}
+use Rattle.wild_expression.specs.Grammar.{close}
 
 pub record IsFree {A : Type 0} (P : Reader A) : Type 0 where
   pub at : (n m : ℕ) (b : Bytes) (i : ℕ) (y : A) (j : ℕ) → P b n i y j → P b m i y j
@@ -67,7 +70,7 @@ unfolding gap
 gap_free = search free
 
 pub token_free : IsFree token
-unfolding token quoted_token quoted byte
+unfolding token quoted_token quoted run byte
 token_free = search free depth 20
 
 pub name_free : IsFree name
@@ -82,12 +85,12 @@ pub close_free : IsFree (close first_grammar)
 unfolding close
 close_free = search (free, byte_free, white_free)
 
-pub segment_free : IsFree segment_word
-unfolding segment_word
+pub segment_free : IsFree quoted_name
+unfolding quoted_name
 segment_free = search free
 
-pub identifier_free : IsFree words.identifier
-unfolding words.identifier
+pub identifier_free : IsFree identifier
+unfolding identifier run
 identifier_free = search free
 
 pub operator_free : (level : Level) → IsFree (operator level)
@@ -98,10 +101,10 @@ pub sign_free : IsFree sign
 unfolding sign
 sign_free = search free
 
-called_free : (o : Option Call) → IsFree (words.called_by o)
-called_free None = nothing_free
-called_free (Some call) = give_free
+call_free : (o : Option Call) → IsFree (words.known_call o)
+call_free None = nothing_free
+call_free (Some call) = give_free
 
 pub head_free : IsFree (words.head first_grammar)
-unfolding words.head words.bracket words.number_or_word words.number words.literal words.word words.identifier words.counter_or_named words.counter words.named words.name_or_call words.lone_name words.called
-head_free = search (free, white_free, called_free) depth 20
+unfolding words.head words.bracket words.number_or_word words.number literal words.word identifier run words.word_tail words.counter words.name_tail words.name_or_call words.lone_name words.word_call
+head_free = search (free, white_free, call_free) depth 20

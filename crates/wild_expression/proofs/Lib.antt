@@ -1,5 +1,5 @@
 pub mod Weights
-pub mod Local
+pub mod Layers
 pub mod Positions
 pub mod Shorter
 pub mod ChainLists

@@ -28,7 +28,7 @@ covered_by p = record { paid = λ h. p }
 pub covered_none : {s : Position} → IsCovered 0 s
 covered_none = record { paid = λ h. absurd (omega (arith, h)) }
 
--- behind a mark the depth before it is paid, and one more
+-- after a mark the depth before it is paid, and one more
 from_cover : (depth : ℕ) {s r : Position} → (1 ≤ depth → IsPaid depth s → IsPaid (depth + 1) r) → IsCovered depth s → IsMarked r → IsPaid (depth + 1) r
 from_cover zero f q m = m
 from_cover (suc n) f q m = f (omega arith) (q.paid (omega arith))

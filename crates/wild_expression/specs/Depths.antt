@@ -9,6 +9,6 @@ use Rattle.wild_expression.specs.Grammar.{value}
 abbrev pub IsRead : Level → Bytes → ℕ → Measured → ℕ → Type 0
 IsRead level b i x j = (limit : ℕ) × value level b limit i x j
 
--- within a limit stands what stands within any, and is no deeper
+-- within a limit is read what is read within any, and is no deeper
 abbrev pub DepthsAreBudgets : Type 0
 DepthsAreBudgets = (level : Level) (b : Bytes) (limit i : ℕ) (x : Measured) (j : ℕ) → value level b limit i x j ↔ (IsRead level b i x j × (x.depth ≤ limit))

@@ -6,13 +6,13 @@ use Rattle.wild_expression_tree.specs.declared.tree.Expression.{Expression}
 use Rattle.wild_expression_words.specs.declared.operators.Level.TheVariants.{Ternary}
 use Rattle.wild_expression.specs.Grammar.{value}
 
--- an expression, with the white behind it
+-- an expression, with the white after it
 unfoldable pub expression : Reader Expression
 expression = do
   x ← value Ternary
   Give x.expression
 
--- the brackets of an ASSERT, with a condition and a message, and the gap behind them
+-- the brackets of an ASSERT, with a condition and a message, and the gap after them
 unfoldable pub assert_body : Reader AssertCommand
 assert_body = do
   at ← here

@@ -1,6 +1,6 @@
--- What stands at a position as an expression, of depth at most 256, and what says that there is none.
+-- What is read at a position as an expression, and what says that nothing is.
 use Rattle.std.specs.Prelude.{◌≡◌, ℕ, ◌≤◌, ◌<◌, length}
-use Rattle.wild_reading.specs.Position.{Bytes}
+use Rattle.wild_reading.specs.Position.{Bytes, max_depth}
 use Rattle.wild_names.specs.declared.fault.Fault.{Fault}
 use Rattle.wild_names.specs.declared.fault.Fault.TheVariants.{Syntax, UnclosedComment, TooDeep, NoMemory}
 use Rattle.wild_reading.specs.Only.{IsOpenComment, IsTooDeep}
@@ -14,11 +14,11 @@ use Rattle.wild_expression.specs.Depths.{IsRead}
 unfoldable pub is_read : Bytes → ℕ → Expression → ℕ → ℕ → Type 0
 is_read b i x depth j = IsRead Ternary b i (record { expression = x; depth = depth }) j
 
--- they are, it is no deeper than 256, and nothing else is read from there, of whatever depth
+-- they are, it is within the limit of depth, and nothing else is read from there, of whatever depth
 pub record IsExpression (b : Bytes) (i : ℕ) (x : Expression) (j : ℕ) : Type 0 where
   pub depth : ℕ
   pub is : is_read b i x depth j
-  pub deep : depth ≤ 256
+  pub deep : depth ≤ max_depth
   pub only : (y : Expression) (d k : ℕ) → is_read b i y d k → (y ≡ x) × (d ≡ depth) × (k ≡ j)
   pub forward : i < j
   pub within : j ≤ length b
@@ -27,11 +27,11 @@ pub record IsExpression (b : Bytes) (i : ℕ) (x : Expression) (j : ℕ) : Type 
 abbrev pub Never : Bytes → ℕ → Type 0
 Never b i = (x : Expression) (d j : ℕ) → is_read b i x d j → ⊥
 
--- nothing of depth at most 256 is
+-- nothing within the limit of depth is
 abbrev pub HasNone : Bytes → ℕ → Type 0
-HasNone b i = (x : Expression) (d j : ℕ) → is_read b i x d j → 256 < d
+HasNone b i = (x : Expression) (d j : ℕ) → is_read b i x d j → max_depth < d
 
--- the fault that tells why reading stopped; no sort stands in an expression
+-- the fault that says why reading stopped; no sort is in an expression
 abbrev pub plain_fault : Stop → Fault
 plain_fault (stop.Syntax position) = Syntax position
 plain_fault (stop.OpenComment position) = UnclosedComment position
@@ -43,5 +43,5 @@ plain_fault stop.NoMemory = NoMemory
 abbrev pub IsRefusal : Bytes → ℕ → Fault → Type 0
 IsRefusal b i (Syntax position) = Never b i × (position ≤ length b)
 IsRefusal b i (UnclosedComment position) = Never b i × IsOpenComment b position
-IsRefusal b i (TooDeep position) = HasNone b i × IsTooDeep (record { bytes = b; start = i; limit = 256 }) position
+IsRefusal b i (TooDeep position) = HasNone b i × IsTooDeep (record { bytes = b; start = i; limit = max_depth }) position
 IsRefusal b i f = ⊥

@@ -8,7 +8,7 @@ pub fn chains_are_lists()
     ensures { ChainsAreLists }
 {}
 
-/// Within a limit of depth stands what stands within any, and is no deeper.
+/// Within a limit of depth is read what is read within any, and is no deeper.
 pub fn depths_are_budgets()
     ensures { DepthsAreBudgets }
 {}

@@ -13,9 +13,10 @@ use crate::measured::{
     Measured, align_counter, align_value, ask, assert_that, choose, join, pair_up, put_sign, start,
 };
 use std::alloc::Global;
+use wild_expression_tree::Question;
 use wild_expression_words::{
-    Call, Extreme, Head, Level, Piece, Question, ends, is_signed, name, operand, pass_operator,
-    pass_sign, quoted_name, read_head,
+    Call, Extreme, Head, Level, ends, identifier, is_signed, operand, pass_operator, pass_sign,
+    quoted_name, read_head,
 };
 use wild_names::Name;
 use wild_reading::{Cursor, Stop};
@@ -29,13 +30,6 @@ fn close(cursor: &mut Cursor<'_>) -> Result<(), Stop>
     Ok(())
 }
 
-#[tactic(auto, unfolding(crate::specs::Grammar::segment_word))]
-fn segment<'a>(cursor: &mut Cursor<'a>) -> Result<Piece<'a>, Stop>
-    ensures { Answers spec.segment_word cursor.old cursor.new result }
-{
-    quoted_name(cursor)
-}
-
 #[tactic(auto, using(wild_reading::proofs::Readers::reading, crate::proofs::Weights::weights), unfolding(crate::specs::Grammar::question))]
 fn ask_name(cursor: &mut Cursor<'_>, alloc: Global, asks: Question) -> Result<Measured, Stop>
     ensures read { Answers (spec.question first_grammar asks) cursor.old cursor.new result }
@@ -46,7 +40,7 @@ fn ask_name(cursor: &mut Cursor<'_>, alloc: Global, asks: Question) -> Result<Me
     cursor.byte(b'(')?;
     cursor.room(0)?;
     cursor.white()?;
-    let word = name(cursor)?;
+    let word = identifier(cursor)?;
     cursor.white()?;
     close(cursor)?;
     let argument = Name::new(alloc, word.content())?;
@@ -67,7 +61,7 @@ fn enclosed(cursor: &mut Cursor<'_>, alloc: Global, level: Level) -> Result<Meas
     Ok(x)
 }
 
-/// Reads an expression of a level, and the white behind it, one deeper: a mark that deepens it was read before.
+/// Reads an expression of a level, and the white after it, one deeper: a mark that deepens it was read before.
 #[cycle(levels)]
 pub fn inner_value(cursor: &mut Cursor<'_>, alloc: Global, level: Level) -> Result<Measured, Stop>
     requires { IsMarked cursor.old }
@@ -77,6 +71,7 @@ pub fn inner_value(cursor: &mut Cursor<'_>, alloc: Global, level: Level) -> Resu
     ensures fits { IfOk result (λ x. x.depth + 1 < 2 ^ 32) }
 {
     let x = enclosed(cursor, alloc, level)?;
+    // It never fails: what was read is less deep than the depth that is left. It says that one more fits.
     cursor.room(x.depth)?;
     Ok(x)
 }
@@ -190,7 +185,7 @@ fn segment_start(cursor: &mut Cursor<'_>, alloc: Global) -> Result<Measured, Sto
 {
     cursor.byte(b'(')?;
     cursor.white()?;
-    let word = segment(cursor)?;
+    let word = quoted_name(cursor)?;
     cursor.white()?;
     cursor.byte(b',')?;
     let x = inner_value(cursor, alloc, Level::Ternary)?;
@@ -237,9 +232,9 @@ fn arguments(cursor: &mut Cursor<'_>, alloc: Global, call: Call) -> Result<Measu
 }
 
 #[cycle(levels)]
-#[tactic(auto, using(wild_reading::proofs::Readers::reading, crate::proofs::Weights::weights), unfolding(crate::specs::Grammar::behind, crate::specs::Grammar::behind_of, crate::specs::Grammar::arguments))]
-fn behind(cursor: &mut Cursor<'_>, alloc: Global, head: Head) -> Result<Measured, Stop>
-    ensures read { Answers (spec.behind head) cursor.old cursor.new result }
+#[tactic(auto, using(wild_reading::proofs::Readers::reading, crate::proofs::Weights::weights), unfolding(crate::specs::Grammar::after_head, crate::specs::Grammar::after_head_of, crate::specs::Grammar::arguments))]
+fn after_head(cursor: &mut Cursor<'_>, alloc: Global, head: Head) -> Result<Measured, Stop>
+    ensures read { Answers (spec.after_head head) cursor.old cursor.new result }
     ensures deep { IfOk result (λ x. x.depth ≤ cursor.old.left) }
     ensures paid { IfOk result (λ x. IsCovered x.depth cursor.new) }
     ensures shorter { OnOk result (ahead cursor.new < ahead cursor.old + byte_count head) }
@@ -254,7 +249,7 @@ fn behind(cursor: &mut Cursor<'_>, alloc: Global, head: Head) -> Result<Measured
 }
 
 #[cycle(levels)]
-#[tactic(auto, using(wild_reading::proofs::Readers::reading), unfolding(crate::specs::Grammar::primary, crate::specs::Grammar::primary_of, crate::specs::Grammar::behind))]
+#[tactic(auto, using(wild_reading::proofs::Readers::reading), unfolding(crate::specs::Grammar::primary, crate::specs::Grammar::primary_of, crate::specs::Grammar::after_head))]
 fn primary(cursor: &mut Cursor<'_>, alloc: Global) -> Result<Measured, Stop>
     ensures read { Answers spec.primary cursor.old cursor.new result }
     ensures deep { IfOk result (λ x. x.depth ≤ cursor.old.left) }
@@ -262,40 +257,40 @@ fn primary(cursor: &mut Cursor<'_>, alloc: Global) -> Result<Measured, Stop>
     ensures shorter { OnOk result (ahead cursor.new < ahead cursor.old) }
 {
     let head = read_head(cursor, alloc)?;
-    behind(cursor, alloc, head)
+    after_head(cursor, alloc, head)
 }
 
 #[cycle(levels)]
-#[tactic(auto, using(wild_reading::proofs::Readers::reading, crate::proofs::Weights::weights), unfolding(crate::specs::Grammar::signed, crate::specs::Grammar::signed_of))]
-fn signed(cursor: &mut Cursor<'_>, alloc: Global) -> Result<Measured, Stop>
-    ensures read { Answers spec.signed cursor.old cursor.new result }
+#[tactic(auto, using(wild_reading::proofs::Readers::reading, crate::proofs::Weights::weights), unfolding(crate::specs::Grammar::unary, crate::specs::Grammar::unary_of))]
+fn unary(cursor: &mut Cursor<'_>, alloc: Global) -> Result<Measured, Stop>
+    ensures read { Answers spec.unary cursor.old cursor.new result }
     ensures deep { IfOk result (λ x. x.depth ≤ cursor.old.left) }
     ensures paid { IfOk result (λ x. IsCovered x.depth cursor.new) }
     ensures shorter { OnOk result (ahead cursor.new < ahead cursor.old) }
 {
     let before = pass_sign(cursor)?;
     let x = inner_value(cursor, alloc, Level::Sign)?;
-    let signed = put_sign(alloc, before, x)?;
-    Ok(signed)
+    let unary = put_sign(alloc, before, x)?;
+    Ok(unary)
 }
 
 #[cycle(levels)]
-#[tactic(auto, using(wild_reading::proofs::Readers::choosing), unfolding(crate::specs::Grammar::signed_or_primary, crate::specs::Grammar::signed_or_primary_of, crate::specs::Grammar::signed, crate::specs::Grammar::primary))]
-fn signed_or_primary(cursor: &mut Cursor<'_>, alloc: Global) -> Result<Measured, Stop>
-    ensures read { Answers spec.signed_or_primary cursor.old cursor.new result }
+#[tactic(auto, using(wild_reading::proofs::Readers::choosing), unfolding(crate::specs::Grammar::unary_or_primary, crate::specs::Grammar::unary_or_primary_of, crate::specs::Grammar::unary, crate::specs::Grammar::primary))]
+fn unary_or_primary(cursor: &mut Cursor<'_>, alloc: Global) -> Result<Measured, Stop>
+    ensures read { Answers spec.unary_or_primary cursor.old cursor.new result }
     ensures deep { IfOk result (λ x. x.depth ≤ cursor.old.left) }
     ensures paid { IfOk result (λ x. IsCovered x.depth cursor.new) }
     ensures shorter { OnOk result (ahead cursor.new < ahead cursor.old) }
 {
     if is_signed(cursor) {
-        signed(cursor, alloc)
+        unary(cursor, alloc)
     } else {
         primary(cursor, alloc)
     }
 }
 
 #[cycle(levels)]
-#[tactic(auto, using(wild_reading::proofs::Readers::reading), unfolding(crate::specs::Grammar::sign_level, crate::specs::Grammar::sign_of, crate::specs::Grammar::signed_or_primary))]
+#[tactic(auto, using(wild_reading::proofs::Readers::reading), unfolding(crate::specs::Grammar::sign_level, crate::specs::Grammar::sign_of, crate::specs::Grammar::unary_or_primary))]
 fn sign_level(cursor: &mut Cursor<'_>, alloc: Global) -> Result<Measured, Stop>
     ensures read { Answers spec.sign_level cursor.old cursor.new result }
     ensures deep { IfOk result (λ x. x.depth ≤ cursor.old.left) }
@@ -303,7 +298,7 @@ fn sign_level(cursor: &mut Cursor<'_>, alloc: Global) -> Result<Measured, Stop>
     ensures shorter { OnOk result (ahead cursor.new < ahead cursor.old) }
 {
     cursor.white()?;
-    signed_or_primary(cursor, alloc)
+    unary_or_primary(cursor, alloc)
 }
 
 #[cycle(levels)]
@@ -449,7 +444,7 @@ fn layer(cursor: &mut Cursor<'_>, alloc: Global, level: Level) -> Result<Measure
     rest(cursor, alloc, level, first)
 }
 
-/// Reads an expression of a level, and the white behind it.
+/// Reads an expression of a level, and the white after it.
 #[cycle(levels)]
 pub fn value(cursor: &mut Cursor<'_>, alloc: Global, level: Level) -> Result<Measured, Stop>
     ensures read { Answers (spec.value level) cursor.old cursor.new result }

@@ -8,12 +8,11 @@ mod parts;
 mod readings;
 
 pub use laws::{chains_are_lists, depths_are_budgets};
-pub use levels::{inner_value, value};
+pub use levels::inner_value;
 pub use measured::Measured;
 pub use parts::{assert_body, expression};
 pub use readings::parse_expression;
-pub use wild_expression_tree::{AssertCommand, Expression, equality_is_sameness};
-pub use wild_expression_words::{Level, Operator, node};
+pub use wild_expression_tree::{AssertCommand, Expression};
 
 #[cfg(test)]
 mod expression_tests;

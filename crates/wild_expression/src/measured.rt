@@ -5,11 +5,11 @@ ghost use Rattle.wild_expression.specs.Grammar as spec;
 
 use sqlite_items::Boxed;
 use std::alloc::{AllocError, Global};
-use wild_expression_tree::{AssertCommand, Expression};
-use wild_expression_words::{Extreme, Operator, Question, Sign, node, signed_node};
+use wild_expression_tree::{AssertCommand, Expression, Question, Unary};
+use wild_expression_words::{Extreme, Operator, node, signed_node};
 use wild_names::{Name, SegmentName};
 
-/// An expression, and its depth: how many brackets, signs, operators and calls stand in one another in it.
+/// An expression, and its depth: how many brackets, signs, operators and calls are in one another in it.
 #[derive(Debug, Drop)]
 pub struct Measured {
     pub expression: Boxed<Expression>,
@@ -25,7 +25,7 @@ pub fn join(
 ) -> Result<Measured, AllocError>
     requires left { left.depth + 1 < 2 ^ 32 }
     requires right { right.depth + 1 < 2 ^ 32 }
-    ensures { IfOk result (λ x. x ≡ spec.joined operator left right) }
+    ensures { IfOk result (λ x. x ≡ spec.binary_tree operator left right) }
 {
     let depth = left.depth.max(right.depth) + 1;
     let expression = node(operator, left.expression, right.expression);
@@ -35,7 +35,7 @@ pub fn join(
     })
 }
 
-/// A condition, and what stands where it holds and where it does not.
+/// A condition, and what it chooses from.
 pub fn choose(
     alloc: Global,
     condition: Measured,
@@ -45,7 +45,7 @@ pub fn choose(
     requires condition { condition.depth + 1 < 2 ^ 32 }
     requires then { then.depth + 1 < 2 ^ 32 }
     requires other { other.depth + 1 < 2 ^ 32 }
-    ensures { IfOk result (λ x. x ≡ spec.chosen condition then other) }
+    ensures { IfOk result (λ x. x ≡ spec.ternary_tree condition then other) }
 {
     let depth = condition.depth.max(then.depth.max(other.depth)) + 1;
     let expression = Expression::Ternary(condition.expression, then.expression, other.expression);
@@ -56,9 +56,9 @@ pub fn choose(
 }
 
 /// A sign before an operand.
-pub fn put_sign(alloc: Global, sign: Sign, operand: Measured) -> Result<Measured, AllocError>
+pub fn put_sign(alloc: Global, sign: Unary, operand: Measured) -> Result<Measured, AllocError>
     requires { operand.depth + 1 < 2 ^ 32 }
-    ensures { IfOk result (λ x. x ≡ spec.signed_by sign operand) }
+    ensures { IfOk result (λ x. x ≡ spec.unary_tree sign operand) }
 {
     let depth = operand.depth + 1;
     Ok(Measured {
@@ -76,7 +76,7 @@ pub fn pair_up(
 ) -> Result<Measured, AllocError>
     requires left { left.depth + 1 < 2 ^ 32 }
     requires right { right.depth + 1 < 2 ^ 32 }
-    ensures { IfOk result (λ x. x ≡ spec.paired extreme left right) }
+    ensures { IfOk result (λ x. x ≡ spec.extreme_tree extreme left right) }
 {
     let depth = left.depth.max(right.depth) + 1;
     let expression = match extreme {
@@ -92,7 +92,7 @@ pub fn pair_up(
 /// The location counter, aligned.
 pub fn align_counter(alloc: Global, alignment: Measured) -> Result<Measured, AllocError>
     requires { alignment.depth + 1 < 2 ^ 32 }
-    ensures { IfOk result (λ x. x ≡ spec.aligned_counter alignment) }
+    ensures { IfOk result (λ x. x ≡ spec.align_counter_tree alignment) }
 {
     let depth = alignment.depth + 1;
     Ok(Measured {
@@ -109,7 +109,7 @@ pub fn align_value(
 ) -> Result<Measured, AllocError>
     requires value { value.depth + 1 < 2 ^ 32 }
     requires alignment { alignment.depth + 1 < 2 ^ 32 }
-    ensures { IfOk result (λ x. x ≡ spec.aligned_value value alignment) }
+    ensures { IfOk result (λ x. x ≡ spec.align_value_tree value alignment) }
 {
     let depth = value.depth.max(alignment.depth) + 1;
     let expression = Expression::Align(alignment.expression, Some(value.expression));
@@ -122,7 +122,7 @@ pub fn align_value(
 /// The start of a segment, or a value.
 pub fn start(alloc: Global, name: &[u8], value: Measured) -> Result<Measured, AllocError>
     requires { value.depth + 1 < 2 ^ 32 }
-    ensures { IfOk result (λ x. x ≡ spec.started name.now value) }
+    ensures { IfOk result (λ x. x ≡ spec.segment_start_tree name.now value) }
 {
     let depth = value.depth + 1;
     let expression = Expression::SegmentStart(SegmentName::from_bytes(name), value.expression);
@@ -132,7 +132,7 @@ pub fn start(alloc: Global, name: &[u8], value: Measured) -> Result<Measured, Al
     })
 }
 
-/// A condition that must hold, whose bracket stands at the position.
+/// A condition that must hold, whose bracket is at the position.
 pub fn assert_that(
     alloc: Global,
     at: usize,
@@ -140,7 +140,7 @@ pub fn assert_that(
     message: Name,
 ) -> Result<Measured, AllocError>
     requires { condition.depth + 1 < 2 ^ 32 }
-    ensures { IfOk result (λ x. x ≡ spec.asserted at condition message) }
+    ensures { IfOk result (λ x. x ≡ spec.assert_tree at condition message) }
 {
     let depth = condition.depth + 1;
     let command = AssertCommand {
@@ -170,7 +170,7 @@ fn question_node(question: Question, name: Name) -> Expression
 
 /// A call over a name.
 pub fn ask(alloc: Global, question: Question, name: Name) -> Result<Measured, AllocError>
-    ensures { IfOk result (λ x. x ≡ spec.asked question name) }
+    ensures { IfOk result (λ x. x ≡ spec.question_tree question name) }
 {
     let expression = question_node(question, name);
     Ok(Measured {

@@ -12,7 +12,7 @@ use wild_expression_tree::{AssertCommand, Expression};
 use wild_expression_words::Level;
 use wild_reading::{Cursor, Stop};
 
-/// Reads an expression and the white behind it.
+/// Reads an expression and the white after it.
 #[tactic(auto, using(wild_reading::proofs::Readers::reading), unfolding(crate::specs::Parts::expression))]
 pub fn expression(cursor: &mut Cursor<'_>, alloc: Global) -> Result<Boxed<Expression>, Stop>
     ensures read { Answers spec.expression cursor.old cursor.new result }
@@ -22,7 +22,7 @@ pub fn expression(cursor: &mut Cursor<'_>, alloc: Global) -> Result<Boxed<Expres
     Ok(x.expression)
 }
 
-/// Reads the brackets of an ASSERT, with its condition and its message, and the gap behind them.
+/// Reads the brackets of an ASSERT, with its condition and its message, and the gap after them.
 #[tactic(auto, using(wild_reading::proofs::Readers::reading), unfolding(crate::specs::Parts::assert_body))]
 pub fn assert_body(cursor: &mut Cursor<'_>, alloc: Global) -> Result<AssertCommand, Stop>
     ensures read { Answers spec.assert_body cursor.old cursor.new result }

@@ -9,12 +9,9 @@ use std::alloc::Global;
 use wild_expression_tree::Expression;
 use wild_expression_words::Level;
 use wild_names::Fault;
-use wild_reading::{Cursor, Stop};
+use wild_reading::{Cursor, MAX_DEPTH, Stop};
 
-/// How deep an expression may be.
-const MAX_DEPTH: u32 = 256;
-
-// No sort stands in an expression: where one would be in another, nothing is read.
+// No sort is in an expression: where one would be in another, nothing is read.
 fn plain_fault(stop: Stop) -> Fault
     ensures { result ≡ plain_fault stop }
 {
@@ -24,7 +21,7 @@ fn plain_fault(stop: Stop) -> Fault
     }
 }
 
-/// Reads the expression at a position, and the white behind it. Answers it and the position behind it. Fails with
+/// Reads the expression at a position, and the white after it. Answers it and the position after it. Fails with
 /// `Syntax` or `UnclosedComment` where none is read there, with `TooDeep` where none is of a depth up to 256, and
 /// where memory runs out.
 pub fn parse_expression(
@@ -33,7 +30,7 @@ pub fn parse_expression(
     position: usize,
 ) -> Result<(Expression, usize), Fault>
     requires { position ≤ length bytes.now }
-    // It is read there, nothing else is, and it ends behind its start.
+    // It is read there, nothing else is, and it ends after its start.
     ensures found { IfOk result (λ r. IsExpression bytes.now position r.0 r.1) }
     // None is read there, or none of a depth up to 256.
     ensures refused { IfErr result (λ f. (f ≡ NoMemory) ⊎ IsRefusal bytes.now position f) }

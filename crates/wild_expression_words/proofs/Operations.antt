@@ -14,8 +14,8 @@ use Rattle.wild_reading.proofs.Marks.{marked, mark_count-rises}
 use Rattle.wild_expression_words.specs.declared.operators.Level.{Level}
 use Rattle.wild_expression_words.specs.declared.operators.Level.TheVariants as l
 use Rattle.wild_expression_words.specs.declared.operators.Operator.{Operator}
-use Rattle.wild_expression_words.specs.declared.operators.Sign.{Sign}
-use Rattle.wild_expression_words.specs.Operators.{operator_of, operator_from, operator_found, operator_at, operator, width, first_byte, sign_of, sign_found, sign_at, sign, sign_byte, behind}
+use Rattle.wild_expression_tree.specs.declared.operator.Unary.{Unary}
+use Rattle.wild_expression_words.specs.Operators.{operator_of, operator_from, operator_found, operator_at, operator, width, first_byte, sign_of, sign_found, sign_at, sign, sign_byte, with_end}
 use Rattle.wild_expression_words.proofs.Passing.{passed_less}
 
 -- ---- a byte that stands there
@@ -49,7 +49,7 @@ stands : (c : ℕ) (b : Bytes) (i : ℕ) → begins c b i ≡ true → after_byt
 unfolding after_byte
 stands c b i h = rw h refl
 
--- so its reader stops for want of memory alone, and no other reader is harmed
+-- so its reader stops where memory runs out alone, and no other reader is harmed
 pub byte_stands : {A : Type 0} {R : Reader A} (c : ℕ) {s : Position} {stop : Stop} → begins c s.text.bytes s.at ≡ true → Refuses (byte c) s stop → Refuses R s stop
 unfolding byte
 byte_stands c {s = s} h p = record {
@@ -66,18 +66,18 @@ marked_on {m} {r} p e g h =
 
 -- ---- signs
 
-sign_first : (v w : Option ℕ) (x : Sign) → sign_of v w ≡ Some x → is_byte (sign_byte x) v ≡ true
+sign_first : (v w : Option ℕ) (x : Unary) → sign_of v w ≡ Some x → is_byte (sign_byte x) v ≡ true
 sign_first v w x h = grind (arith, common_steps)
 
-sign_begins : (b : Bytes) (i : ℕ) (x : Sign) → sign_found b i ≡ Some x → begins (sign_byte x) b i ≡ true
+sign_begins : (b : Bytes) (i : ℕ) (x : Unary) → sign_found b i ≡ Some x → begins (sign_byte x) b i ≡ true
 unfolding sign_found begins
 sign_begins b i x h = sign_first (slice_get b i) (slice_get b (i + 1)) x h
 
-pub sign_marks : (x : Sign) → is_mark (sign_byte x) ≡ true
+pub sign_marks : (x : Unary) → is_mark (sign_byte x) ≡ true
 sign_marks x = grind arith
 
 module _ {s : Position} {b : Bytes} {i : ℕ} (e : b ≡ s.text.bytes) (g : i ≡ s.at) where
-  pub sign_reads : {r : Position} {x : Sign} {v : ℕ} → Some x ≡ sign_found b i → v ≡ sign_byte x → IsOnly (byte v) s tt r → Answers sign s r (Ok x)
+  pub sign_reads : {r : Position} {x : Unary} {v : ℕ} → Some x ≡ sign_found b i → v ≡ sign_byte x → IsOnly (byte v) s tt r → Answers sign s r (Ok x)
   unfolding sign sign_at
   sign_reads {x = x} {v = v} h k p = let found : sign_found s.text.bytes s.at ≡ Some x = cc in answers_ok (takes_only (rw (found, byte_end v p) refl) p.text p.left p.forward p.shrinks)
 
@@ -85,7 +85,7 @@ module _ {s : Position} {b : Bytes} {i : ℕ} (e : b ≡ s.text.bytes) (g : i �
   unfolding sign sign_at
   sign_missing h w = let found : sign_found s.text.bytes s.at ≡ None = cc in answers_refused (takes_refuses (rw found refl) w)
 
-  pub sign_stands : {stop : Stop} {x : Sign} {v : ℕ} → Some x ≡ sign_found b i → v ≡ sign_byte x → Refuses (byte v) s stop → Refuses sign s stop
+  pub sign_stands : {stop : Stop} {x : Unary} {v : ℕ} → Some x ≡ sign_found b i → v ≡ sign_byte x → Refuses (byte v) s stop → Refuses sign s stop
   sign_stands {x = x} {v = v} h k p = let found : sign_found s.text.bytes s.at ≡ Some x = cc in byte_stands v (rw k (sign_begins s.text.bytes s.at x found)) p
 
 -- ---- operators
@@ -134,7 +134,7 @@ module _ (level : Level) {s : Position} {b : Bytes} {i : ℕ} (e : b ≡ s.text.
 
 -- ---- an operator pays for one level more
 
-reads_some : (o : Option Operator) (x : Operator) (i j : ℕ) → behind o i ≡ Some (x, j) → (o ≡ Some x) × (j ≡ i + width x)
+reads_some : (o : Option Operator) (x : Operator) (i j : ℕ) → with_end o i ≡ Some (x, j) → (o ≡ Some x) × (j ≡ i + width x)
 reads_some None x i j h = absurd cc
 reads_some (Some y) x i j h = grind arith
 

@@ -1,4 +1,4 @@
--- A place further on in the same text has less ahead.
+-- A position further on in the same text has less ahead.
 use Rattle.std.proofs.Common.{◌≡◌, ◌≤◌, ◌<◌, length, ap, arith}
 use Rattle.wild_reading.specs.Position.{Text, Position, ahead}
 

@@ -9,8 +9,8 @@ use Rattle.wild_expression_words.specs.declared.operators.Level.{Level}
 use Rattle.wild_expression_words.specs.declared.operators.Level.TheVariants as l
 use Rattle.wild_expression_words.specs.declared.operators.Operator.{Operator}
 use Rattle.wild_expression_words.specs.declared.operators.Operator.TheVariants as o
-use Rattle.wild_expression_words.specs.declared.operators.Sign.{Sign}
-use Rattle.wild_expression_words.specs.declared.operators.Sign.TheVariants as s
+use Rattle.wild_expression_tree.specs.declared.operator.Unary.{Unary}
+use Rattle.wild_expression_tree.specs.declared.operator.Unary.TheVariants as s
 
 -- the level of the operands
 abbrev pub operand : Level → Level
@@ -76,11 +76,12 @@ operator_of l.Sum c d = if c == 43 then Some o.Add else (if c == 45 then Some o.
 operator_of l.Product c d = if c == 42 then Some o.Multiply else (if c == 47 then Some o.Divide else (if c == 37 then Some o.Modulo else None))
 operator_of l.Sign c d = None
 
+-- the same, where the first may be missing
 abbrev pub operator_from : Level → Option ℕ → Option ℕ → Option Operator
 operator_from level None d = None
 operator_from level (Some c) d = operator_of level c d
 
--- the operator of the level that stands at a position
+-- the operator of the level at a position
 unfoldable pub operator_found : Level → Bytes → ℕ → Option Operator
 operator_found level b i = operator_from level (slice_get b i) (slice_get b (i + 1))
 
@@ -126,17 +127,20 @@ first_byte o.Multiply = 42
 first_byte o.Divide = 47
 first_byte o.Modulo = 37
 
-abbrev pub behind : Option Operator → ℕ → Option (Operator × ℕ)
-behind None i = None
-behind (Some op) i = Some (op, i + width op)
+-- it, and the position after it
+abbrev pub with_end : Option Operator → ℕ → Option (Operator × ℕ)
+with_end None i = None
+with_end (Some op) i = Some (op, i + width op)
 
--- the operator of the level at a position, and the position behind it
+-- the operator of the level at a position, and the position after it
 unfoldable pub operator_at : Level → Bytes → ℕ → Option (Operator × ℕ)
-operator_at level b i = behind (operator_found level b i) i
+operator_at level b i = with_end (operator_found level b i) i
 
+-- an operator of the level
 unfoldable pub operator : Level → Reader Operator
 operator level = Takes (operator_at level)
 
+-- there is none
 abbrev pub is_missing : Option Operator → Bool
 is_missing None = true
 is_missing (Some op) = false
@@ -169,30 +173,35 @@ node o.Modulo x y = e.Modulo x y
 -- ---- signs
 
 -- the sign that begins with two bytes: `!` where no `=` follows, `~`, `-`
-abbrev pub sign_of : Option ℕ → Option ℕ → Option Sign
+abbrev pub sign_of : Option ℕ → Option ℕ → Option Unary
 sign_of None d = None
 sign_of (Some c) d = if c == 33 && not (is_byte 61 d) then Some s.LogicalNot else (if c == 126 then Some s.BitwiseNot else (if c == 45 then Some s.Negate else None))
 
--- the sign that stands at a position
-unfoldable pub sign_found : Bytes → ℕ → Option Sign
+-- the sign at a position
+unfoldable pub sign_found : Bytes → ℕ → Option Unary
 sign_found b i = sign_of (slice_get b i) (slice_get b (i + 1))
 
-abbrev pub sign_byte : Sign → ℕ
+-- the byte of a sign
+abbrev pub sign_byte : Unary → ℕ
 sign_byte s.LogicalNot = 33
 sign_byte s.BitwiseNot = 126
 sign_byte s.Negate = 45
 
-abbrev pub behind_sign : Option Sign → ℕ → Option (Sign × ℕ)
-behind_sign None i = None
-behind_sign (Some x) i = Some (x, i + 1)
+-- it, and the position after it
+abbrev pub sign_with_end : Option Unary → ℕ → Option (Unary × ℕ)
+sign_with_end None i = None
+sign_with_end (Some x) i = Some (x, i + 1)
 
-unfoldable pub sign_at : Bytes → ℕ → Option (Sign × ℕ)
-sign_at b i = behind_sign (sign_found b i) i
+-- the sign at a position, and the position after it
+unfoldable pub sign_at : Bytes → ℕ → Option (Unary × ℕ)
+sign_at b i = sign_with_end (sign_found b i) i
 
-unfoldable pub sign : Reader Sign
+-- a sign
+unfoldable pub sign : Reader Unary
 sign = Takes sign_at
 
-abbrev pub is_there : Option Sign → Bool
+-- there is one
+abbrev pub is_there : Option Unary → Bool
 is_there None = false
 is_there (Some x) = true
 
@@ -201,7 +210,7 @@ unfoldable pub is_signed : Bytes → ℕ → Bool
 is_signed b i = is_there (sign_found b i)
 
 -- the node over one operand
-abbrev pub signed_node : Sign → Expression → Expression
+abbrev pub signed_node : Unary → Expression → Expression
 signed_node s.LogicalNot x = e.LogicalNot x
 signed_node s.BitwiseNot x = e.BitwiseNot x
 signed_node s.Negate x = e.Negate x

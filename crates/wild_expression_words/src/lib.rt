@@ -1,19 +1,18 @@
 //! Expressions without operators, and operators: what is read in expressions that holds no expression.
 #![tactic(auto)]
 
-mod identifier;
+mod identifiers;
 mod literal;
 mod operators;
-mod piece;
 mod quotes;
 mod words;
 
+pub use identifiers::identifier;
 pub use operators::{
-    Level, Operator, Sign, ends, is_signed, node, operand, pass_operator, pass_sign, signed_node,
+    Level, Operator, ends, is_signed, node, operand, pass_operator, pass_sign, signed_node,
 };
-pub use piece::Piece;
 pub use quotes::quoted_name;
-pub use words::{Call, Extreme, Head, Question, name, read_head};
+pub use words::{Call, Extreme, Head, is_counter, read_head};
 
 #[cfg(test)]
 mod leaf_tests;

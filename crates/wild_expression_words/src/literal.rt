@@ -2,54 +2,19 @@
 
 ghost use Rattle.std.specs.Prelude.{◌≡◌, ◌≤◌, ◌<◌, ◌+◌, ◌^◌, length, slice_get, OnOk, IfSome, IsSome, MatchOption};
 ghost use Rattle.std.specs.Bool.{OnTrue};
-ghost use Rattle.std.specs.Char as chars;
 ghost use Rattle.std.specs.Str.Parse.{digits_value};
 ghost use Rattle.wild_reading.specs.Position.{ahead};
-ghost use Rattle.wild_reading.specs.Reader.{Takes};
 ghost use Rattle.wild_reading.specs.Only.{Answers};
 ghost use Rattle.wild_expression_words.specs.Literal as spec;
 
-use crate::identifier::goes_on;
-use wild_reading::{Cursor, Stop, begins};
+use wild_reading::{Class, Cursor, Stop, begins, begins_run, digit_value, run_end};
 
-/// Where the digits of a literal stand, and their radix.
+/// Where the digits of a literal are, and their radix.
 #[derive(Clone, Copy)]
 pub struct Digits {
     pub radix: u64,
     pub start: usize,
     pub end: usize,
-}
-
-fn digit_value(byte: u8) -> u64
-    ensures { result ≡ chars.digit_value byte }
-{
-    match byte {
-        b'0'..=b'9' => (byte - b'0') as u64,
-        b'A'..=b'Z' => (byte - b'A' + 10) as u64,
-        b'a'..=b'z' => (byte - b'a' + 10) as u64,
-        _ => 36,
-    }
-}
-
-fn is_digit_of(radix: u64, byte: u8) -> bool
-    ensures { result ≡ spec.is_digit_of radix byte }
-{
-    digit_value(byte) < radix
-}
-
-/// The position behind the digits at a position.
-#[tactic(auto, using(wild_reading::proofs::Runs::run_ends))]
-fn digits_end(bytes: &[u8], at: usize, radix: u64) -> usize
-    requires { at ≤ length bytes.now }
-    ensures value { result ≡ spec.digits_end radix bytes.now at }
-    ensures within { result ≤ length bytes.now }
-    ensures forward { at ≤ result }
-{
-    let mut end = at;
-    while end < bytes.len() && is_digit_of(radix, bytes[end]) {
-        end += 1;
-    }
-    end
 }
 
 /// The number that the digits write, if it is below 2 ^ 64.
@@ -65,7 +30,7 @@ fn number(digits: &[u8], radix: u64) -> Option<u64>
     Some(value)
 }
 
-/// Whether `0x` or `0X` stands at a position.
+/// Whether `0x` or `0X` is at a position.
 #[tactic(auto, unfolding(crate::specs::Literal::begins_hexadecimal))]
 fn begins_hexadecimal(bytes: &[u8], at: usize) -> bool
     ensures value { result ≡ spec.begins_hexadecimal bytes.now at }
@@ -88,7 +53,7 @@ fn digits_at(bytes: &[u8], at: usize) -> Digits
         return Digits {
             radix: 16,
             start: at + 2,
-            end: digits_end(bytes, at + 2, 16),
+            end: run_end(bytes, at + 2, Class::Digit { radix: 16 }),
         };
     }
     if begins(bytes, at, b'0') {
@@ -101,7 +66,7 @@ fn digits_at(bytes: &[u8], at: usize) -> Digits
     Digits {
         radix: 10,
         start: at,
-        end: digits_end(bytes, at, 10),
+        end: run_end(bytes, at, Class::Digit { radix: 10 }),
     }
 }
 
@@ -131,7 +96,7 @@ fn suffix_len(factor: u64) -> usize
     if factor > 1 { 1 } else { 0 }
 }
 
-/// The value of the literal with these digits, and the position behind it.
+/// The value of the literal with these digits, and the position after it.
 #[tactic(auto, unfolding(crate::specs::Literal::literal_of))]
 fn literal_of(bytes: &[u8], digits: Digits) -> Option<(u64, usize)>
     requires radix { 1 ≤ digits.radix }
@@ -147,13 +112,13 @@ fn literal_of(bytes: &[u8], digits: Digits) -> Option<(u64, usize)>
     let value = number(&bytes[digits.start..digits.end], digits.radix)?;
     let factor = factor_of(byte_at(bytes, digits.end));
     let end = digits.end + suffix_len(factor);
-    if goes_on(bytes, end) {
+    if begins_run(bytes, end, Class::Identifier) {
         return None;
     }
     Some((value.wrapping_mul(factor), end))
 }
 
-/// The value of the literal at a position, and the position behind it.
+/// The value of the literal at a position, and the position after it.
 #[tactic(auto, unfolding(crate::specs::Literal::literal_at))]
 fn literal_at(bytes: &[u8], at: usize) -> Option<(u64, usize)>
     requires { at ≤ length bytes.now }
@@ -164,10 +129,10 @@ fn literal_at(bytes: &[u8], at: usize) -> Option<(u64, usize)>
     literal_of(bytes, digits_at(bytes, at))
 }
 
-/// Reads a literal, and nothing behind it.
-#[tactic(auto, using(wild_reading::proofs::Readers::leaves, crate::proofs::Passing::passing))]
+/// Reads a literal, and nothing after it.
+#[tactic(auto, using(wild_reading::proofs::Readers::leaves, crate::proofs::Passing::passing), unfolding(crate::specs::Literal::literal))]
 pub fn literal(cursor: &mut Cursor<'_>) -> Result<u64, Stop>
-    ensures read { Answers (Takes spec.literal_at) cursor.old cursor.new result }
+    ensures read { Answers spec.literal cursor.old cursor.new result }
     ensures shorter { OnOk result (ahead cursor.new < ahead cursor.old) }
 {
     let at = cursor.position();

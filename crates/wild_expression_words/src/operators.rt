@@ -7,7 +7,7 @@ ghost use Rattle.wild_reading.specs.Position.{ahead, IsMarked};
 ghost use Rattle.wild_expression_words.specs.Operators as spec;
 
 use sqlite_items::Boxed;
-use wild_expression_tree::Expression;
+use wild_expression_tree::{Expression, Unary};
 use wild_reading::{Cursor, Stop};
 
 /// The levels at which operators bind, the loosest first.
@@ -48,14 +48,6 @@ pub enum Operator {
     Multiply,
     Divide,
     Modulo,
-}
-
-/// The operators before one operand.
-#[derive(Clone, Copy, Debug, PartialEq, Eq)]
-pub enum Sign {
-    LogicalNot,
-    BitwiseNot,
-    Negate,
 }
 
 /// The level of the operands.
@@ -223,16 +215,16 @@ pub fn node(operator: Operator, left: Boxed<Expression>, right: Boxed<Expression
 }
 
 #[tactic(auto, unfolding(crate::specs::Operators::sign_found))]
-fn sign_found(bytes: &[u8], at: usize) -> Option<Sign>
+fn sign_found(bytes: &[u8], at: usize) -> Option<Unary>
     requires { at ≤ length bytes.now }
     ensures value { result ≡ spec.sign_found bytes.now at }
     ensures within { OnSome result (at < length bytes.now) }
 {
     let first = *bytes.get(at)?;
     match first {
-        b'!' if !is_byte(bytes.get(at + 1).copied(), b'=') => Some(Sign::LogicalNot),
-        b'~' => Some(Sign::BitwiseNot),
-        b'-' => Some(Sign::Negate),
+        b'!' if !is_byte(bytes.get(at + 1).copied(), b'=') => Some(Unary::LogicalNot),
+        b'~' => Some(Unary::BitwiseNot),
+        b'-' => Some(Unary::Negate),
         _ => None,
     }
 }
@@ -245,19 +237,19 @@ pub fn is_signed(cursor: &Cursor<'_>) -> bool
     sign_found(cursor.bytes(), cursor.position()).is_some()
 }
 
-fn sign_byte(sign: Sign) -> u8
+fn sign_byte(sign: Unary) -> u8
     ensures { result ≡ spec.sign_byte sign }
 {
     match sign {
-        Sign::LogicalNot => b'!',
-        Sign::BitwiseNot => b'~',
-        Sign::Negate => b'-',
+        Unary::LogicalNot => b'!',
+        Unary::BitwiseNot => b'~',
+        Unary::Negate => b'-',
     }
 }
 
 /// Reads a sign.
 #[tactic(auto, using(wild_reading::proofs::Readers::leaves, crate::proofs::Operations::operations))]
-pub fn pass_sign(cursor: &mut Cursor<'_>) -> Result<Sign, Stop>
+pub fn pass_sign(cursor: &mut Cursor<'_>) -> Result<Unary, Stop>
     ensures read { Answers spec.sign cursor.old cursor.new result }
     ensures shorter { OnOk result (ahead cursor.new < ahead cursor.old) }
     ensures marked { OnOk result (IsMarked cursor.new) }
@@ -273,12 +265,12 @@ pub fn pass_sign(cursor: &mut Cursor<'_>) -> Result<Sign, Stop>
 }
 
 /// The node over one operand.
-pub fn signed_node(sign: Sign, operand: Boxed<Expression>) -> Expression
+pub fn signed_node(sign: Unary, operand: Boxed<Expression>) -> Expression
     ensures { result ≡ spec.signed_node sign operand }
 {
     match sign {
-        Sign::LogicalNot => Expression::LogicalNot(operand),
-        Sign::BitwiseNot => Expression::BitwiseNot(operand),
-        Sign::Negate => Expression::Negate(operand),
+        Unary::LogicalNot => Expression::LogicalNot(operand),
+        Unary::BitwiseNot => Expression::BitwiseNot(operand),
+        Unary::Negate => Expression::Negate(operand),
     }
 }

@@ -1,33 +1,18 @@
-//! What an expression without operators begins with: a number, a name, or what stands before a bracket.
+//! What an expression without operators begins with: a number, a name, or what is before a bracket.
 
 ghost use Rattle.std.specs.Prelude.{◌≡◌, ◌<◌, ◌≤◌, ◌+◌, IfOk, OnOk};
-ghost use Rattle.std.specs.Str.{bytes_eq};
 ghost use Rattle.wild_reading.specs.Position.{ahead};
 ghost use Rattle.wild_reading.specs.Only.{Answers};
 ghost use Rattle.wild_expression_words.specs.Dialect.{first_grammar};
 ghost use Rattle.wild_expression_words.specs.Words as spec;
-ghost use Rattle.wild_expression_words.specs.Identifier as identifiers;
 
-use crate::identifier::{begins_digit, identifier};
+use crate::identifiers::{begins_digit, identifier};
 use crate::literal::literal;
-use crate::piece::Piece;
 use sqlite_items::Boxed;
 use std::alloc::Global;
-use wild_expression_tree::Expression;
+use wild_expression_tree::{Expression, Question};
 use wild_names::{Name, NoMemory};
-use wild_reading::{Cursor, Stop};
-
-/// The calls over one name.
-#[derive(Clone, Copy, Debug, PartialEq, Eq)]
-pub enum Question {
-    Sizeof,
-    Alignof,
-    Addr,
-    Loadaddr,
-    Origin,
-    Length,
-    Defined,
-}
+use wild_reading::{Cursor, Stop, is_word};
 
 /// The calls over two expressions.
 #[derive(Clone, Copy, Debug, PartialEq, Eq)]
@@ -36,7 +21,7 @@ pub enum Extreme {
     Max,
 }
 
-/// What stands before a bracket.
+/// What is before a bracket.
 #[derive(Clone, Copy, Debug, PartialEq, Eq)]
 pub enum Call {
     /// Nothing.
@@ -53,25 +38,8 @@ pub enum Call {
 pub enum Head {
     /// All of it.
     Whole(Boxed<Expression>),
-    /// What stands before its bracket.
+    /// What is before its bracket.
     Before(Call),
-}
-
-#[tactic(auto, unfolding(crate::specs::Words::literal))]
-fn value(cursor: &mut Cursor<'_>) -> Result<u64, Stop>
-    ensures read { Answers spec.literal cursor.old cursor.new result }
-    ensures shorter { OnOk result (ahead cursor.new < ahead cursor.old) }
-{
-    literal(cursor)
-}
-
-/// Reads an identifier, and nothing behind it.
-#[tactic(auto, unfolding(crate::specs::Words::identifier))]
-pub fn name<'a>(cursor: &mut Cursor<'a>) -> Result<Piece<'a>, Stop>
-    ensures read { Answers spec.identifier cursor.old cursor.new result }
-    ensures shorter { OnOk result (ahead cursor.new < ahead cursor.old) }
-{
-    identifier(cursor)
 }
 
 #[tactic(auto, using(wild_reading::proofs::Readers::reading), unfolding(crate::specs::Words::number))]
@@ -79,17 +47,10 @@ fn number(cursor: &mut Cursor<'_>, alloc: Global) -> Result<Head, Stop>
     ensures read { Answers (spec.number first_grammar) cursor.old cursor.new result }
     ensures shorter { OnOk result (ahead cursor.new < ahead cursor.old) }
 {
-    let value = value(cursor)?;
+    let value = literal(cursor)?;
     cursor.white()?;
     let number = Boxed::new(alloc, Expression::Number(value))?;
     Ok(Head::Whole(number))
-}
-
-/// Whether two words have the same bytes.
-pub fn is_word(word: &[u8], other: &[u8]) -> bool
-    ensures { result ≡ bytes_eq word.now other.now }
-{
-    word == other
 }
 
 fn call_of(word: &[u8]) -> Option<Call>
@@ -125,22 +86,20 @@ fn call_of(word: &[u8]) -> Option<Call>
 }
 
 #[tactic(auto, using(wild_reading::proofs::Readers::reading))]
-fn called_by(cursor: &Cursor<'_>, found: Option<Call>) -> Result<Head, Stop>
-    ensures { Answers (spec.called_by found) cursor.now cursor.now result }
+fn known_call(cursor: &Cursor<'_>, found: Option<Call>) -> Result<Head, Stop>
+    ensures { Answers (spec.known_call found) cursor.now cursor.now result }
 {
     match found {
         Some(call) => Ok(Head::Before(call)),
-        None => Err(Stop::Syntax {
-            position: cursor.position(),
-        }),
+        None => cursor.nothing(),
     }
 }
 
-#[tactic(auto, unfolding(crate::specs::Words::called))]
-fn called(cursor: &Cursor<'_>, word: &[u8]) -> Result<Head, Stop>
-    ensures { Answers (spec.called word.now) cursor.now cursor.now result }
+#[tactic(auto, unfolding(crate::specs::Words::word_call))]
+fn word_call(cursor: &Cursor<'_>, word: &[u8]) -> Result<Head, Stop>
+    ensures { Answers (spec.word_call word.now) cursor.now cursor.now result }
 {
-    called_by(cursor, call_of(word))
+    known_call(cursor, call_of(word))
 }
 
 fn name_node(alloc: Global, word: &[u8]) -> Result<Expression, NoMemory>
@@ -167,15 +126,15 @@ fn name_or_call(cursor: &Cursor<'_>, alloc: Global, word: &[u8]) -> Result<Head,
     ensures { Answers (spec.name_or_call word.now) cursor.now cursor.now result }
 {
     if cursor.begins(b'(') {
-        called(cursor, word)
+        word_call(cursor, word)
     } else {
         lone_name(cursor, alloc, word)
     }
 }
 
-#[tactic(auto, using(wild_reading::proofs::Readers::reading), unfolding(crate::specs::Words::named))]
-fn named(cursor: &mut Cursor<'_>, alloc: Global, word: &[u8]) -> Result<Head, Stop>
-    ensures { Answers (spec.named first_grammar word.now) cursor.old cursor.new result }
+#[tactic(auto, using(wild_reading::proofs::Readers::reading), unfolding(crate::specs::Words::name_tail))]
+fn name_tail(cursor: &mut Cursor<'_>, alloc: Global, word: &[u8]) -> Result<Head, Stop>
+    ensures { Answers (spec.name_tail first_grammar word.now) cursor.old cursor.new result }
 {
     cursor.white()?;
     name_or_call(cursor, alloc, word)
@@ -190,21 +149,22 @@ fn counter(cursor: &mut Cursor<'_>, alloc: Global) -> Result<Head, Stop>
     Ok(Head::Whole(counter))
 }
 
+/// Whether a word is the name of the location counter.
 #[tactic(auto, unfolding(crate::specs::Words::is_counter))]
-fn is_counter(word: &[u8]) -> bool
+pub fn is_counter(word: &[u8]) -> bool
     ensures { result ≡ spec.is_counter word.now }
 {
-    word == b".".as_slice()
+    is_word(word, b".")
 }
 
-#[tactic(auto, using(wild_reading::proofs::Readers::choosing), unfolding(crate::specs::Words::counter_or_named))]
-fn counter_or_named(cursor: &mut Cursor<'_>, alloc: Global, word: &[u8]) -> Result<Head, Stop>
-    ensures { Answers (spec.counter_or_named first_grammar word.now) cursor.old cursor.new result }
+#[tactic(auto, using(wild_reading::proofs::Readers::choosing), unfolding(crate::specs::Words::word_tail))]
+fn word_tail(cursor: &mut Cursor<'_>, alloc: Global, word: &[u8]) -> Result<Head, Stop>
+    ensures { Answers (spec.word_tail first_grammar word.now) cursor.old cursor.new result }
 {
     if is_counter(word) {
         counter(cursor, alloc)
     } else {
-        named(cursor, alloc, word)
+        name_tail(cursor, alloc, word)
     }
 }
 
@@ -213,8 +173,8 @@ fn word(cursor: &mut Cursor<'_>, alloc: Global) -> Result<Head, Stop>
     ensures read { Answers (spec.word first_grammar) cursor.old cursor.new result }
     ensures shorter { OnOk result (ahead cursor.new < ahead cursor.old) }
 {
-    let word = name(cursor)?;
-    counter_or_named(cursor, alloc, word.content())
+    let word = identifier(cursor)?;
+    word_tail(cursor, alloc, word.content())
 }
 
 #[tactic(auto, using(wild_reading::proofs::Readers::reading), unfolding(crate::specs::Words::bracket))]
@@ -225,25 +185,19 @@ fn bracket(cursor: &Cursor<'_>) -> Result<Head, Stop>
     Ok(Head::Before(Call::Brackets))
 }
 
-fn is_number(cursor: &Cursor<'_>) -> bool
-    ensures { result ≡ identifiers.begins_digit cursor.now.text.bytes cursor.now.at }
-{
-    begins_digit(cursor.bytes(), cursor.position())
-}
-
 #[tactic(auto, using(wild_reading::proofs::Readers::choosing), unfolding(crate::specs::Words::number_or_word))]
 fn number_or_word(cursor: &mut Cursor<'_>, alloc: Global) -> Result<Head, Stop>
     ensures read { Answers (spec.number_or_word first_grammar) cursor.old cursor.new result }
     ensures shorter { OnOk result (ahead cursor.new < ahead cursor.old) }
 {
-    if is_number(cursor) {
+    if begins_digit(cursor) {
         number(cursor, alloc)
     } else {
         word(cursor, alloc)
     }
 }
 
-/// Reads an expression with none inside and the white behind it, or what stands before the bracket ahead.
+/// Reads an expression with none inside and the white after it, or what is before the bracket ahead.
 #[tactic(auto, using(wild_reading::proofs::Readers::choosing, crate::proofs::Taken::taken), unfolding(crate::specs::Words::head))]
 pub fn read_head(cursor: &mut Cursor<'_>, alloc: Global) -> Result<Head, Stop>
     ensures read { Answers (spec.head first_grammar) cursor.old cursor.new result }

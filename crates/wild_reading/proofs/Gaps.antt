@@ -5,9 +5,11 @@ use Rattle.std.specs.Option.{option_map}
 use Rattle.std.specs.List.{find, range_with_len}
 use Rattle.std.proofs.lemmas.Option.{slice_get_past}
 use Rattle.wild_reading.specs.Position.{Bytes}
-use Rattle.wild_reading.specs.Bytes.{run_end, is_white, is_in_line, begins, begins_comment, ends_comment, line_end, past_white}
-use Rattle.wild_reading.specs.Lex.{after_line, after_close, after_comment, ends_gap, or_stop, stretch_end, go_on, stretches_end, rest_of_gap, gap_end}
+use Rattle.wild_reading.specs.Bytes.{run_end, begins, begins_comment, ends_comment}
+use Rattle.wild_reading.specs.Lex.{past_white, after_line, after_close, after_comment, ends_gap, or_stop, stretch_end, go_on, stretches_end, rest_of_gap, gap_end}
 use Rattle.wild_reading.specs.Gap.{GapsHaveThreeCases}
+use Rattle.wild_reading.specs.declared.classes.Class.{Class}
+use Rattle.wild_reading.specs.declared.classes.Class.TheVariants as k
 use Rattle.wild_reading.specs.declared.stop.Stop.{Stop}
 use Rattle.wild_reading.specs.declared.stop.Stop.TheVariants.{Syntax, OpenComment}
 
@@ -39,16 +41,16 @@ comment_on : (b : Bytes) (i m : ℕ) → after_comment b i ≡ Some m → i < m
 unfolding after_comment
 comment_on b i m h = omega (arith, close_on b (i + 1) m (chosen (begins_comment b i) m h))
 
-run_on : (p : ℕ → Bool) (b : Bytes) (i : ℕ) → i ≤ run_end p b i
+run_on : (class : Class) (b : Bytes) (i : ℕ) → i ≤ run_end class b i
 unfolding run_end
-run_on p b i = omega arith
+run_on class b i = omega arith
 
 line_on : (b : Bytes) (i m : ℕ) → after_line b i ≡ Some m → i ≤ m
 unfolding after_line
 line_on b i m h =
-    let e : Some (line_end b i) ≡ Some m = chosen (begins 10 b (line_end b i)) m h in
-    let same : line_end b i ≡ m = cc in
-    omega (arith, same, run_on is_in_line b i)
+    let e : Some (run_end k.Line b i) ≡ Some m = chosen (begins 10 b (run_end k.Line b i)) m h in
+    let same : run_end k.Line b i ≡ m = cc in
+    omega (arith, same, run_on k.Line b i)
 
 there : (stop : Stop) (o : Option ℕ) (m : ℕ) → or_stop stop o ≡ Ok m → o ≡ Some m
 there stop (Some n) m h = cc
@@ -76,7 +78,7 @@ same_step i f g false (Ok m) h = h m refl
 enough : (n : ℕ) (b : Bytes) (i : ℕ) → length b ≤ n + i → stretches_end n b i ≡ stretches_end (suc n) b i
 unfolding stretches_end
 enough zero b i h = rw (end_ends b i (omega (arith, h))) refl
-enough (suc n) b i h = same_step i (λ m. stretches_end n b (past_white b m)) (λ m. stretches_end (suc n) b (past_white b m)) (ends_gap b i) (stretch_end b i) (λ m e. enough n b (past_white b m) (omega (arith, h, stretch_on b i m e, run_on is_white b m)))
+enough (suc n) b i h = same_step i (λ m. stretches_end n b (past_white b m)) (λ m. stretches_end (suc n) b (past_white b m)) (ends_gap b i) (stretch_end b i) (λ m e. enough n b (past_white b m) (omega (arith, h, stretch_on b i m e, run_on k.White b m)))
 
 one_more : (b : Bytes) (i : ℕ) → rest_of_gap b i ≡ stretches_end (suc (length b)) b i
 unfolding rest_of_gap

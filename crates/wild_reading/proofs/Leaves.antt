@@ -1,4 +1,4 @@
--- A place further on has less ahead, and no fewer marks behind it.
+-- A position further on has less ahead, and no fewer marks before it.
 use Rattle.std.proofs.Common.{◌≡◌, ℕ, ◌≤◌, ◌<◌, length, arith, true, false, Bool, refl, if◌then◌else◌}
 use Rattle.std.specs.Prelude.{not, ◌&&◌, Option, None}
 use Rattle.wild_reading.specs.Position.{Bytes, Text, ahead, mark_count}

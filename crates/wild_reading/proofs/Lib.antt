@@ -1,5 +1,5 @@
 pub mod Readers
-pub mod Runs
+pub mod RunEnds
 pub mod Marks
 pub mod Leaves
 pub mod Closes

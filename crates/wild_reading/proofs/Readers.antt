@@ -9,7 +9,7 @@ use Rattle.wild_reading.specs.Only.{IsOnly, Refuses, Answers, IsFault, IsSyntax,
 use Rattle.wild_reading.specs.declared.stop.Stop.{Stop}
 use Rattle.wild_reading.specs.declared.stop.Stop.TheVariants.{Syntax, OpenComment, NestedSort, TooDeep, NoMemory}
 
--- ---- the same place
+-- ---- the same position
 
 pub moved : {A : Type 0} (R : Reader A) {b c : Bytes} {limit left i : ℕ} {y : A} {j : ℕ} → c ≡ b → left ≡ limit → R c left i y j → R b limit i y j
 moved R {b} {c} {limit} {left} {i} {y} {j} e g h = subst (λ (n : Bytes). R n limit i y j) e (subst (λ (n : ℕ). R c n i y j) g h)
@@ -27,7 +27,7 @@ cause_same stop e w = subst (λ (n : Text). IsCause stop n) e w
 pub bytes_same : {t u : Text} → u ≡ t → u.bytes ≡ t.bytes
 bytes_same e = ap (λ (n : Text). n.bytes) e
 
--- ---- one reader behind another
+-- ---- one reader after another
 
 module _ {A B : Type 0} {P : Reader A} {f : A → Reader B} {s : Position} {x : A} {m : Position} (p : IsOnly P s x m) where
   -- what any reading goes through
@@ -75,7 +75,7 @@ answers_err {A} {R} {s} {r} {stop} {result} h p =
     let e = err_from_is_err_and result h in
     subst (λ (q : Result A Stop). Answers R s r q) (sym (e.1 ∙ ap (λ (d : Stop). Err d) e.2)) (answers_refused p)
 
--- behind a part that was read, the answer of the rest
+-- after a part that was read, the answer of the rest
 pub bind_answers : {A B : Type 0} {P : Reader A} {f : A → Reader B} {s : Position} {x : A} {m r : Position} {result : Result B Stop} → IsOnly P s x m → Answers (f x) m r result → Answers (Then P f) s r result
 bind_answers {result = Ok y} p h = answers_ok (bind_only p h.ok)
 bind_answers {result = Err e} p h = answers_refused (bind_then_refuses p h.err)
@@ -335,9 +335,6 @@ module _ {A : Type 0} {stop : Bytes → ℕ → Bool} {item : Reader A} where
 
 -- what a function that reads step by step answers with
 pub ruleset reading = (bind_only, bind_refuses, bind_then_refuses, bind_answers, no_memory, answers_ok, answers_refused, answers_err, give_only, give_by, ahead_only, ahead_refuses, nothing_refuses)
-
--- what a function that reads one deeper answers with
-pub ruleset nesting = (deeper_only, deeper_refuses, full_refuses, no_memory, answers_ok, answers_refused, answers_err)
 
 pub ruleset choosing = (choice_yes, choice_no, choice_yes_refuses, choice_no_refuses, choice_yes_answers, choice_no_answers, answers_refused, nothing_refuses)
 

@@ -4,34 +4,46 @@ use Rattle.std.specs.Option.{option_map}
 use Rattle.std.specs.Result.{result_ok}
 use Rattle.std.specs.List.{find, range_with_len}
 use Rattle.wild_reading.specs.Position.{Bytes}
-use Rattle.wild_reading.specs.Bytes.{past_white, token_end, pattern_end, line_end, quotes_end, begins, begins_with, begins_comment, ends_comment}
+use Rattle.wild_reading.specs.Bytes.{run_end, begins, begins_with, begins_comment, ends_comment}
 use Rattle.wild_reading.specs.Reader.{Reader, ◌>>=◌, ◌>>◌, Give, Passes, Takes, Choice}
+use Rattle.wild_reading.specs.declared.classes.Class.{Class}
+use Rattle.wild_reading.specs.declared.classes.Class.TheVariants as k
 use Rattle.wild_reading.specs.declared.stop.Stop.{Stop}
 use Rattle.wild_reading.specs.declared.stop.Stop.TheVariants.{Syntax, OpenComment}
 
--- ---- gaps
+-- ---- bytes
 
-unfoldable pub after_white : Bytes → ℕ → Option ℕ
-after_white b i = Some (past_white b i)
-
-unfoldable pub white : Reader (Unit {0})
-white = Passes after_white
-
+-- after a byte
 unfoldable pub after_byte : ℕ → Bytes → ℕ → Option ℕ
 after_byte c b i = if begins c b i then Some (i + 1) else None
 
+-- this byte
 unfoldable pub byte : ℕ → Reader (Unit {0})
 byte c = Passes (after_byte c)
 
+-- ---- gaps
+
+-- the position after the white at a position
+abbrev pub past_white : Bytes → ℕ → ℕ
+past_white = run_end k.White
+
+-- there is always one
+unfoldable pub after_white : Bytes → ℕ → Option ℕ
+after_white b i = Some (past_white b i)
+
+-- white, perhaps none
+unfoldable pub white : Reader (Unit {0})
+white = Passes after_white
+
 -- up to the newline that ends a line
 unfoldable pub after_line : Bytes → ℕ → Option ℕ
-after_line b i = if begins 10 b (line_end b i) then Some (line_end b i) else None
+after_line b i = if begins 10 b (run_end k.Line b i) then Some (run_end k.Line b i) else None
 
--- behind the first `*/` from the position on
+-- after the first `*/` from the position on
 unfoldable pub after_close : Bytes → ℕ → Option ℕ
 after_close b i = option_map (λ k. k + 2) (find (ends_comment b) (range_with_len i (length b - i)))
 
--- behind a comment, whose end may begin at its star
+-- after a comment, whose end may begin at its star
 unfoldable pub after_comment : Bytes → ℕ → Option ℕ
 after_comment b i = if begins_comment b i then after_close b (i + 1) else None
 
@@ -48,23 +60,25 @@ or_stop stop (Some end) = Ok end
 unfoldable pub stretch_end : Bytes → ℕ → Result ℕ Stop
 stretch_end b i = if begins 35 b i then or_stop (Syntax (i + 1)) (after_line b (i + 1)) else or_stop (OpenComment i) (after_comment b i)
 
+-- goes on from an end, if there is one
 abbrev pub go_on : (ℕ → Result ℕ Stop) → Result ℕ Stop → Result ℕ Stop
 go_on f (Err stop) = Err stop
 go_on f (Ok m) = f m
 
--- behind so many lines and comments, each with the white behind it, or fewer where the gap ends before
+-- after so many lines and comments, each with the white after it, or fewer where the gap ends before
 unfoldable pub stretches_end : ℕ → Bytes → ℕ → Result ℕ Stop
 stretches_end zero b i = Ok i
 stretches_end (suc n) b i = if ends_gap b i then Ok i else go_on (λ m. stretches_end n b (past_white b m)) (stretch_end b i)
 
--- behind all of them: each takes a byte
+-- after all of them: each takes a byte
 unfoldable pub rest_of_gap : Bytes → ℕ → Result ℕ Stop
 rest_of_gap b i = stretches_end (length b) b i
 
--- behind white, lines and comments, or what stays open
+-- after white, lines and comments, or what stays open
 unfoldable pub gap_end : Bytes → ℕ → Result ℕ Stop
 gap_end b i = rest_of_gap b (past_white b i)
 
+-- the end, if there is one
 unfoldable pub after_gap : Bytes → ℕ → Option ℕ
 after_gap b i = result_ok (gap_end b i)
 
@@ -74,7 +88,7 @@ gap = Passes after_gap
 
 -- ---- tokens
 
--- what a token says, and whether it stands in quotes
+-- what a token says, and whether it is in quotes
 pub record Word : Type 0 where
   pub content : List ℕ
   pub quoted : Bool
@@ -83,61 +97,64 @@ pub record Word : Type 0 where
 abbrev pub between : Bytes → ℕ → ℕ → List ℕ
 between b i j = take (j - i) (drop i b)
 
--- behind the quote that opens: the bytes up to the quote that closes, and that quote
-unfoldable pub quoted_at : Bytes → ℕ → Option (Word × ℕ)
-quoted_at b i = if begins 34 b (quotes_end b i) then Some (record { content = between b i (quotes_end b i); quoted = true }, quotes_end b i + 1) else None
+-- a run of the class, of one byte at least, and the position after it
+unfoldable pub run_at : Class → Bytes → ℕ → Option (Word × ℕ)
+run_at class b i = if run_end class b i == i then None else Some (record { content = between b i (run_end class b i); quoted = false }, run_end class b i)
 
+-- the longest run of the class
+unfoldable pub run : Class → Reader Word
+run class = Takes (run_at class)
+
+-- after the quote that opens: the bytes up to the quote that closes, and the position after that
+unfoldable pub quoted_at : Bytes → ℕ → Option (Word × ℕ)
+quoted_at b i =
+    let end = run_end k.Quotes b i in
+    if begins 34 b end then Some (record { content = between b i end; quoted = true }, end + 1) else None
+
+-- what is in quotes, and the quote that closes
 unfoldable pub quoted : Reader Word
 quoted = Takes quoted_at
 
+-- bytes in quotes
 unfoldable pub quoted_token : Reader Word
 quoted_token = do
   byte 34
-  w ← quoted
-  Give w
+  quoted
 
-unfoldable pub plain_at : Bytes → ℕ → Option (Word × ℕ)
-plain_at b i = if token_end b i == i then None else Some (record { content = between b i (token_end b i); quoted = false }, token_end b i)
-
+-- a token in quotes where a quote is ahead, and else a run
 unfoldable pub token : Reader Word
-token = Choice (begins 34) quoted_token (Takes plain_at)
+token = Choice (begins 34) quoted_token (run k.Token)
 
--- a token and the gap behind it
+-- a token and the gap after it
 unfoldable pub word : Reader Word
 word = do
   w ← token
   gap
   Give w
 
--- the content of a token, and the gap behind it
+-- the content of a token, and the gap after it
 unfoldable pub name : Reader (List ℕ)
 name = do
   w ← word
   Give w.content
 
--- ---- names of patterns: as far as a bracket or white, comments and opening brackets included
-
-unfoldable pub pattern_at : Bytes → ℕ → Option (Word × ℕ)
-pattern_at b i = if pattern_end b i == i then None else Some (record { content = between b i (pattern_end b i); quoted = false }, pattern_end b i)
-
-unfoldable pub pattern : Reader Word
-pattern = Takes pattern_at
-
 -- ---- symbols
 
--- a byte and the gap behind it
+-- a byte and the gap after it
 unfoldable pub symbol : ℕ → Reader (Unit {0})
 symbol c = do
   byte c
   gap
 
+-- after a byte, if it is ahead
 unfoldable pub after_optional : ℕ → Bytes → ℕ → Option ℕ
 after_optional c b i = if begins c b i then Some (i + 1) else Some i
 
+-- this byte or none
 unfoldable pub optional : ℕ → Reader (Unit {0})
 optional c = Passes (after_optional c)
 
--- a byte or none, and the gap behind it
+-- a byte or none, and the gap after it
 unfoldable pub optional_symbol : ℕ → Reader (Unit {0})
 optional_symbol c = do
   optional c
@@ -145,7 +162,7 @@ optional_symbol c = do
 
 -- ---- sort words
 
--- behind a sort word: the first of SORT_BY_NAME, SORT_BY_ALIGNMENT and SORT that stands there
+-- after a sort word: the first of SORT_BY_NAME, SORT_BY_ALIGNMENT and SORT that is there
 unfoldable pub after_sort_word : Bytes → ℕ → Option ℕ
 after_sort_word b i =
     if begins_with (codes "SORT_BY_NAME") b i then Some (i + 12)

@@ -25,6 +25,7 @@ IsSyntax (NestedSort position) = Unit {0}
 IsSyntax (TooDeep position) = ⊥
 IsSyntax NoMemory = ⊥
 
+-- a fault, of the text or of its depth
 abbrev pub IsFault : Stop → Type 0
 IsFault (Syntax position) = Unit {0}
 IsFault (OpenComment position) = Unit {0}
@@ -32,20 +33,20 @@ IsFault (NestedSort position) = Unit {0}
 IsFault (TooDeep position) = Unit {0}
 IsFault NoMemory = ⊥
 
--- a comment begins at the position, and nothing behind its slash closes it
+-- a comment begins at the position, and nothing after its slash closes it
 pub record IsOpenComment (b : Bytes) (position : ℕ) : Type 0 where
   pub within : position ≤ length b
   pub opens : begins_comment b position ≡ true
   pub closes : after_close b (position + 1) ≡ None
 
--- `SORT` stands at the position, directly behind a sort word and its bracket
+-- `SORT` is at the position, directly after a sort word and its bracket
 pub record IsNestedSort (b : Bytes) (position : ℕ) : Type 0 where
   pub within : position ≤ length b
   pub sorts : begins_with (codes "SORT") b position ≡ true
   pub word : ℕ
   pub bracket : sort_bracket b 0 word tt position
 
--- as many marks as the limit of depth stand between the start and the position
+-- as many marks as the limit of depth are between the start and the position
 pub record IsTooDeep (text : Text) (position : ℕ) : Type 0 where
   pub within : position ≤ length text.bytes
   pub marks : mark_count text.bytes text.start + text.limit ≤ mark_count text.bytes position
@@ -64,13 +65,14 @@ pub record Refuses {X : Type 0} (R : Reader X) (s : Position) (stop : Stop) : Ty
   pub never : IsSyntax stop → (limit : ℕ) (y : X) (j : ℕ) → R s.text.bytes limit s.at y j → ⊥
   pub cause : IsCause stop s.text
 
+-- what is read, and nothing else; or why nothing is
 pub record Answers {X : Type 0} (R : Reader X) (s r : Position) (result : Result X Stop) : Type 0 where
   pub ok : IfOk result (λ x. IsOnly R s x r)
   pub err : IfErr result (λ stop. Refuses R s stop)
 
 -- ---- one deeper
 
--- the same place, with one less of depth
+-- the same position, with one less of depth
 pub record IsInside (s : Position) (r : Position) : Type 0 where
   pub text : r.text ≡ s.text
   pub at : r.at ≡ s.at
@@ -83,11 +85,12 @@ pub record IsFull (s : Position) (stop : Stop) : Type 0 where
   pub deep : IsSyntax stop → ⊥
   pub cause : IsCause stop s.text
 
+-- one deeper, or no depth is left
 pub record Enters (s r : Position) (result : Result (Unit {0}) Stop) : Type 0 where
   pub ok : IfOk result (λ _. IsInside s r)
   pub err : IfErr result (λ stop. IsFull s stop)
 
--- the same place, with one more of depth
+-- the same position, with one more of depth
 pub record Leaves (s r : Position) : Type 0 where
   pub text : r.text ≡ s.text
   pub at : r.at ≡ s.at

@@ -1,22 +1,24 @@
--- What a grammar is made of. A reader relates bytes, a limit of depth and a position to a value that is read there, and
--- to the position behind it.
+-- What a grammar is made of.
 use Rattle.std.specs.Prelude.{◌≡◌, ℕ, zero, suc, Bool, true, false, List, [], ◌∷◌, Option, Some}
 use Rattle.wild_reading.specs.Position.{Bytes}
 
+-- A reader relates bytes, a limit of depth and a position to a value that is read there, and to the position after it.
 abbrev pub Reader : Type 0 → Type 1
 Reader X = Bytes → ℕ → ℕ → X → ℕ → Type 0
 
--- P, and behind it what f says of P's value
+-- P, and after it what f says of P's value
 pub record Then {A B : Type 0} (P : Reader A) (f : A → Reader B) (b : Bytes) (limit i : ℕ) (y : B) (j : ℕ) : Type 0 where
   pub value : A
   pub middle : ℕ
   pub first : P b limit i value middle
   pub second : f value b limit middle y j
 
+-- P, and after it what P's value is given to
 infixl 10 ◌>>=◌
 abbrev pub ◌>>=◌ : {A B : Type 0} → Reader A → (A → Reader B) → Reader B
 P >>= f = Then P f
 
+-- P, and after it Q
 infixl 10 ◌>>◌
 abbrev pub ◌>>◌ : {A B : Type 0} → Reader A → Reader B → Reader B
 P >> Q = P >>= (λ _. Q)
@@ -31,6 +33,7 @@ pub record Here (b : Bytes) (limit i : ℕ) (y : ℕ) (j : ℕ) : Type 0 where
   pub value : y ≡ i
   pub end : j ≡ i
 
+-- as a step
 unfoldable pub here : Reader ℕ
 here = Here
 
@@ -60,6 +63,7 @@ pub data Choice {A : Type 0} (test : Bytes → ℕ → Bool) (P Q : Reader A) (b
   yes : test b i ≡ true → P b limit i y j → Choice test P Q b limit i y j
   no : test b i ≡ false → Q b limit i y j → Choice test P Q b limit i y j
 
+-- P where the condition holds, and else Q
 abbrev pub If : {A : Type 0} → Bool → Reader A → Reader A → Reader A
 If c P Q = Choice (λ _ _. c) P Q
 

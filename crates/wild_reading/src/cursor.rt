@@ -8,12 +8,16 @@ ghost use Rattle.wild_reading.specs.Reader as readers;
 ghost use Rattle.wild_reading.specs.Family as family;
 ghost use Rattle.wild_reading.specs.Only.{Answers, IsOnly, Enters, Leaves};
 
+use crate::classes::{Class, begins_run, run_end};
 use crate::lex;
-use crate::skipping::past_gap;
+use crate::skipping::gap_end;
 use crate::stop::Stop;
 use std::alloc::Global;
 use std::marker::Model;
 use wild_names::Name;
+
+/// How deep what is read may be.
+pub const MAX_DEPTH: u32 = 256;
 
 /// Bytes that are read from a position on, no deeper than a limit. Contracts see the text, the position in its bytes,
 /// and how much depth is left.
@@ -39,7 +43,7 @@ impl<'a> Model for Cursor<'a> {
     ghost invariant = { λ c. (c.at ≤ length c.bytes.now) × (c.depth ≤ c.limit) × (mark_count c.bytes.now c.start + c.depth ≤ mark_count c.bytes.now c.at) };
 }
 
-/// The bytes of a token, and whether it stands in quotes.
+/// The bytes of a token, and whether it is in quotes.
 #[derive(Drop)]
 pub struct Token<'a> {
     content: &'a [u8],
@@ -55,6 +59,16 @@ impl<'a> Model for Token<'a> {
 }
 
 impl<'a> Token<'a> {
+    /// A token in quotes, of the bytes between them.
+    pub fn quoted(content: &'a [u8]) -> Token<'a>
+        ensures { result ≡ record { content = content.now; quoted = true } }
+    {
+        Token {
+            content,
+            quoted: true,
+        }
+    }
+
     /// The bytes of the token, without its quotes.
     pub fn content(&self) -> &'a [u8]
         ensures { result.now ≡ self.now.content }
@@ -62,7 +76,7 @@ impl<'a> Token<'a> {
         self.content
     }
 
-    /// Whether it stands in quotes.
+    /// Whether it is in quotes.
     pub fn is_quoted(&self) -> bool
         ensures { result ≡ self.now.quoted }
     {
@@ -87,24 +101,17 @@ impl<'a> Cursor<'a> {
         }
     }
 
-    /// How many bytes stand before the cursor.
+    /// How many bytes are before the cursor.
     #[tactic(auto, using(crate::proofs::Readers::here_only))]
     pub fn position(&self) -> usize
         ensures read { IsOnly readers.here self.now result self.now }
         ensures value { result ≡ self.now.at }
         ensures within { result ≤ length self.now.text.bytes }
     {
-        self.place()
-    }
-
-    fn place(&self) -> usize
-        ensures value { result ≡ self.now.at }
-        ensures within { result ≤ length self.now.text.bytes }
-    {
         self.at
     }
 
-    /// All bytes, also those behind the cursor and before its start.
+    /// All bytes, also those after the cursor and before its start.
     pub fn bytes(&self) -> &'a [u8]
         ensures { result.now ≡ self.now.text.bytes }
     {
@@ -128,6 +135,13 @@ impl<'a> Cursor<'a> {
         ensures { result ≡ spec.begins byte self.now.text.bytes self.now.at }
     {
         lex::begins(self.bytes, self.at, byte)
+    }
+
+    /// Whether a byte of the class is the next one.
+    pub fn begins_run(&self, class: Class) -> bool
+        ensures { result ≡ spec.begins_run class self.now.text.bytes self.now.at }
+    {
+        begins_run(self.bytes, self.at, class)
     }
 
     /// Whether no byte is ahead.
@@ -163,7 +177,7 @@ impl<'a> Cursor<'a> {
         self.limit - self.depth
     }
 
-    /// Goes on where what has that depth, and as many marks, may stand one deeper.
+    /// Goes on where what has that depth, and as many marks, may be one deeper.
     #[tactic(auto, using(crate::proofs::Families::rooms, crate::proofs::Readers::leaves))]
     pub fn room(&self, depth: u32) -> Result<(), Stop>
         requires { IsPaid depth self.now }
@@ -173,7 +187,7 @@ impl<'a> Cursor<'a> {
     {
         if depth >= self.depth_left() {
             return Err(Stop::TooDeep {
-                position: self.place(),
+                position: self.position(),
             });
         }
         Ok(())
@@ -184,7 +198,7 @@ impl<'a> Cursor<'a> {
     pub fn white(&mut self) -> Result<(), Stop>
         ensures { Answers lexis.white self.old self.new result }
     {
-        self.at = lex::past_white(self.bytes, self.at);
+        self.at = run_end(self.bytes, self.at, Class::White);
         Ok(())
     }
 
@@ -193,16 +207,11 @@ impl<'a> Cursor<'a> {
     pub fn gap(&mut self) -> Result<(), Stop>
         ensures { Answers lexis.gap self.old self.new result }
     {
-        match past_gap(self.bytes, self.at) {
-            Ok(end) => {
-                self.at = end;
-                Ok(())
-            }
-            Err(stop) => Err(stop),
-        }
+        self.at = gap_end(self.bytes, self.at)?;
+        Ok(())
     }
 
-    /// Reads a byte, and nothing behind it.
+    /// Reads a byte, and nothing after it.
     #[tactic(auto, using(crate::proofs::Readers::leaves, crate::proofs::Leaves::moves), unfolding(crate::specs::Lex::byte, crate::specs::Lex::after_byte))]
     pub fn byte(&mut self, byte: u8) -> Result<(), Stop>
         ensures read { Answers (lexis.byte byte) self.old self.new result }
@@ -226,12 +235,13 @@ impl<'a> Cursor<'a> {
         Ok(())
     }
 
-    #[tactic(auto, using(crate::proofs::Readers::leaves, crate::proofs::Leaves::moves), unfolding(crate::specs::Lex::plain_at))]
-    fn plain_token(&mut self) -> Result<Token<'a>, Stop>
-        ensures read { Answers (readers.Takes lexis.plain_at) self.old self.new result }
+    /// Reads the longest run of the class, of one byte at least.
+    #[tactic(auto, using(crate::proofs::Readers::leaves, crate::proofs::Leaves::moves), unfolding(crate::specs::Lex::run, crate::specs::Lex::run_at))]
+    pub fn run(&mut self, class: Class) -> Result<Token<'a>, Stop>
+        ensures read { Answers (lexis.run class) self.old self.new result }
         ensures shorter { OnOk result (ahead self.new < ahead self.old) }
     {
-        let end = lex::token_end(self.bytes, self.at);
+        let end = run_end(self.bytes, self.at, class);
         if end == self.at {
             return Err(Stop::Syntax { position: self.at });
         }
@@ -243,30 +253,27 @@ impl<'a> Cursor<'a> {
         })
     }
 
+    // What is in quotes, and the quote that closes.
     #[tactic(auto, using(crate::proofs::Readers::leaves, crate::proofs::Leaves::moves), unfolding(crate::specs::Lex::quoted, crate::specs::Lex::quoted_at))]
-    fn quoted_token(&mut self) -> Result<Token<'a>, Stop>
-        ensures read { Answers lexis.quoted self.old self.new result }
+    fn quoted(&mut self) -> Result<Token<'a>, Stop>
+        ensures { Answers lexis.quoted self.old self.new result }
     {
-        let end = lex::quotes_end(self.bytes, self.at);
+        let end = run_end(self.bytes, self.at, Class::Quotes);
         if !lex::begins(self.bytes, end, b'"') {
             return Err(Stop::Syntax { position: end });
         }
         let content = &self.bytes[self.at..end];
         self.at = end + 1;
-        Ok(Token {
-            content,
-            quoted: true,
-        })
+        Ok(Token::quoted(content))
     }
 
     #[tactic(auto, using(crate::proofs::Readers::reading), unfolding(crate::specs::Lex::quoted_token))]
-    fn quotes(&mut self) -> Result<Token<'a>, Stop>
+    fn quoted_token(&mut self) -> Result<Token<'a>, Stop>
         ensures read { Answers lexis.quoted_token self.old self.new result }
         ensures shorter { OnOk result (ahead self.new < ahead self.old) }
     {
         self.byte(b'"')?;
-        let token = self.quoted_token()?;
-        Ok(token)
+        self.quoted()
     }
 
     #[tactic(auto, using(crate::proofs::Readers::choosing), unfolding(crate::specs::Lex::token))]
@@ -275,31 +282,13 @@ impl<'a> Cursor<'a> {
         ensures shorter { OnOk result (ahead self.new < ahead self.old) }
     {
         if self.begins(b'"') {
-            self.quotes()
+            self.quoted_token()
         } else {
-            self.plain_token()
+            self.run(Class::Token)
         }
     }
 
-    /// Reads the name of a pattern: as far as a closing bracket or white.
-    #[tactic(auto, using(crate::proofs::Readers::leaves, crate::proofs::Leaves::moves), unfolding(crate::specs::Lex::pattern, crate::specs::Lex::pattern_at))]
-    pub fn pattern(&mut self) -> Result<Token<'a>, Stop>
-        ensures read { Answers lexis.pattern self.old self.new result }
-        ensures shorter { OnOk result (ahead self.new < ahead self.old) }
-    {
-        let end = lex::pattern_end(self.bytes, self.at);
-        if end == self.at {
-            return Err(Stop::Syntax { position: self.at });
-        }
-        let content = &self.bytes[self.at..end];
-        self.pass_to(end);
-        Ok(Token {
-            content,
-            quoted: false,
-        })
-    }
-
-    /// Reads a byte and the gap behind it.
+    /// Reads a byte and the gap after it.
     #[tactic(auto, using(crate::proofs::Readers::reading, crate::proofs::Marks::paid_on), unfolding(crate::specs::Lex::symbol))]
     pub fn symbol(&mut self, byte: u8) -> Result<(), Stop>
         ensures read { Answers (lexis.symbol byte) self.old self.new result }
@@ -311,7 +300,7 @@ impl<'a> Cursor<'a> {
         Ok(())
     }
 
-    /// Reads a byte, if it is ahead, and the gap behind it.
+    /// Reads a byte, if it is ahead, and the gap after it.
     #[tactic(auto, using(crate::proofs::Readers::reading), unfolding(crate::specs::Lex::optional_symbol))]
     pub fn optional_symbol(&mut self, byte: u8) -> Result<(), Stop>
         ensures { Answers (lexis.optional_symbol byte) self.old self.new result }
@@ -321,7 +310,7 @@ impl<'a> Cursor<'a> {
         Ok(())
     }
 
-    /// Reads a token and the gap behind it.
+    /// Reads a token and the gap after it.
     #[tactic(auto, using(crate::proofs::Readers::reading), unfolding(crate::specs::Lex::word))]
     pub fn word(&mut self) -> Result<Token<'a>, Stop>
         ensures read { Answers lexis.word self.old self.new result }
@@ -332,7 +321,7 @@ impl<'a> Cursor<'a> {
         Ok(token)
     }
 
-    /// Reads a token, as a name, and the gap behind it.
+    /// Reads a token, as a name, and the gap after it.
     #[tactic(auto, using(crate::proofs::Readers::reading), unfolding(crate::specs::Lex::name))]
     pub fn name(&mut self, alloc: Global) -> Result<Name, Stop>
         ensures read { Answers lexis.name self.old self.new result }
@@ -341,6 +330,14 @@ impl<'a> Cursor<'a> {
         let word = self.word()?;
         let name = Name::new(alloc, word.content())?;
         Ok(name)
+    }
+
+    /// Reads nothing.
+    #[tactic(auto, using(crate::proofs::Readers::choosing))]
+    pub fn nothing<T>(&self) -> Result<T, Stop>
+        ensures { Answers readers.Nothing self.now self.now result }
+    {
+        Err(Stop::Syntax { position: self.at })
     }
 
     /// Goes on where a condition holds.

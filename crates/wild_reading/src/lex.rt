@@ -1,119 +1,21 @@
-//! Gaps, tokens and names at a position.
+//! What is ahead at a position.
 
 ghost use Rattle.std.specs.Prelude.{◌≡◌, ◌≤◌, ◌<◌, ◌+◌, length, IfSome};
 ghost use Rattle.std.specs.Bool.{OnTrue};
+ghost use Rattle.std.specs.Str.{bytes_eq};
 ghost use Rattle.wild_reading.specs.Bytes as spec;
 ghost use Rattle.wild_reading.specs.Lex as lexis;
 
-fn is_white(byte: u8) -> bool
-    ensures { result ≡ spec.is_white byte }
+use crate::classes::{Class, run_end};
+
+/// Whether two words have the same bytes.
+pub fn is_word(word: &[u8], other: &[u8]) -> bool
+    ensures { result ≡ bytes_eq word.now other.now }
 {
-    matches!(byte, b' ' | b'\t' | b'\r' | b'\n')
+    word == other
 }
 
-fn is_token(byte: u8) -> bool
-    ensures { result ≡ spec.is_token byte }
-{
-    !matches!(
-        byte,
-        b' ' | b'(' | b')' | b'{' | b'}' | b';' | b',' | b'\n' | b'\t'
-    )
-}
-
-fn is_in_pattern(byte: u8) -> bool
-    ensures { result ≡ spec.is_in_pattern byte }
-{
-    !matches!(byte, b')' | b' ' | b'\t' | b'\n' | 12 | b'\r')
-}
-
-fn is_in_line(byte: u8) -> bool
-    ensures { result ≡ spec.is_in_line byte }
-{
-    byte != b'\n'
-}
-
-fn is_in_quotes(byte: u8) -> bool
-    ensures { result ≡ spec.is_in_quotes byte }
-{
-    byte != b'"'
-}
-
-/// The position behind the white at a position.
-#[tactic(auto, using(crate::proofs::Runs::run_ends))]
-pub fn past_white(bytes: &[u8], at: usize) -> usize
-    requires { at ≤ length bytes.now }
-    ensures value { result ≡ spec.past_white bytes.now at }
-    ensures within { result ≤ length bytes.now }
-    ensures forward { at ≤ result }
-{
-    let mut end = at;
-    while end < bytes.len() && is_white(bytes[end]) {
-        end += 1;
-    }
-    end
-}
-
-/// The position behind the plain token at a position.
-#[tactic(auto, using(crate::proofs::Runs::run_ends))]
-pub fn token_end(bytes: &[u8], at: usize) -> usize
-    requires { at ≤ length bytes.now }
-    ensures value { result ≡ spec.token_end bytes.now at }
-    ensures within { result ≤ length bytes.now }
-    ensures forward { at ≤ result }
-{
-    let mut end = at;
-    while end < bytes.len() && is_token(bytes[end]) {
-        end += 1;
-    }
-    end
-}
-
-/// The position behind the name of a pattern at a position.
-#[tactic(auto, using(crate::proofs::Runs::run_ends))]
-pub fn pattern_end(bytes: &[u8], at: usize) -> usize
-    requires { at ≤ length bytes.now }
-    ensures value { result ≡ spec.pattern_end bytes.now at }
-    ensures within { result ≤ length bytes.now }
-    ensures forward { at ≤ result }
-{
-    let mut end = at;
-    while end < bytes.len() && is_in_pattern(bytes[end]) {
-        end += 1;
-    }
-    end
-}
-
-/// The position of the newline behind a position, or the length.
-#[tactic(auto, using(crate::proofs::Runs::run_ends))]
-fn line_end(bytes: &[u8], at: usize) -> usize
-    requires { at ≤ length bytes.now }
-    ensures value { result ≡ spec.line_end bytes.now at }
-    ensures within { result ≤ length bytes.now }
-    ensures forward { at ≤ result }
-{
-    let mut end = at;
-    while end < bytes.len() && is_in_line(bytes[end]) {
-        end += 1;
-    }
-    end
-}
-
-/// The position of the quote behind a position, or the length.
-#[tactic(auto, using(crate::proofs::Runs::run_ends))]
-pub fn quotes_end(bytes: &[u8], at: usize) -> usize
-    requires { at ≤ length bytes.now }
-    ensures value { result ≡ spec.quotes_end bytes.now at }
-    ensures within { result ≤ length bytes.now }
-    ensures forward { at ≤ result }
-{
-    let mut end = at;
-    while end < bytes.len() && is_in_quotes(bytes[end]) {
-        end += 1;
-    }
-    end
-}
-
-/// Whether a byte stands at a position.
+/// Whether a byte is at a position.
 #[tactic(auto, unfolding(crate::specs::Bytes::begins))]
 pub fn begins(bytes: &[u8], at: usize, byte: u8) -> bool
     ensures value { result ≡ spec.begins byte bytes.now at }
@@ -151,7 +53,7 @@ fn ends_comment(bytes: &[u8], at: usize) -> bool
     begins(bytes, at, b'*') && begins(bytes, at + 1, b'/')
 }
 
-/// The position behind the first end of a comment from a position on.
+/// The position after the first end of a comment from a position on.
 #[tactic(auto, using(crate::proofs::Closes::closes))]
 pub fn after_close(bytes: &[u8], at: usize) -> Option<usize>
     requires { at ≤ length bytes.now }
@@ -175,7 +77,7 @@ pub fn after_line(bytes: &[u8], at: usize) -> Option<usize>
     ensures value { result ≡ lexis.after_line bytes.now at }
     ensures within { IfSome result (λ end. (at ≤ end) × (end ≤ length bytes.now)) }
 {
-    let end = line_end(bytes, at);
+    let end = run_end(bytes, at, Class::Line);
     if begins(bytes, end, b'\n') {
         Some(end)
     } else {

@@ -14,7 +14,7 @@ pub enum Stop {
     Syntax { position: usize },
     /// The same: a comment that begins here does not end.
     OpenComment { position: usize },
-    /// The same: a sort word stands here directly in the brackets of another.
+    /// The same: a sort word is here, directly in the brackets of another.
     NestedSort { position: usize },
     /// Nothing is read within the limit of depth.
     TooDeep { position: usize },

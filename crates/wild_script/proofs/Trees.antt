@@ -2,8 +2,8 @@
 use Rattle.std.proofs.Common.{◌≡◌, ◌⊎◌, ℕ, ◌+◌, ◌≤◌, true, length, subst, sym, ◌∙◌, ap, inl, inr, refl, arith}
 use Rattle.std.proofs.lemmas.Bool.{eqb-true}
 use Rattle.wild_names.specs.declared.fault.Fault.TheVariants as fault
-use Rattle.wild_reading.specs.Position as place
-use Rattle.wild_reading.specs.Position.{Bytes, Text, Position}
+use Rattle.wild_reading.specs.Position as positions
+use Rattle.wild_reading.specs.Position.{Bytes, Text, Position, max_depth}
 use Rattle.wild_reading.specs.Bytes.{is_end}
 use Rattle.wild_reading.specs.Only.{IsOnly, Refuses, IsOpenComment, IsNestedSort}
 use Rattle.wild_reading.specs.declared.stop.Stop.{Stop}
@@ -22,40 +22,40 @@ unfolding script commands
 script_ends b depth i t j h = h.second.second.end ∙ is_length b _ (until_ends b depth _ _ _ h.second.first)
 
 -- a tree of the bytes is what is read from their start
-from_place : (b : Bytes) (s : Position) → s.text.bytes ≡ b → s.at ≡ 0 → (depth : ℕ) (t : LinkerScript) (j : ℕ) → script s.text.bytes depth s.at t j → tree_within depth b t
+from_position : (b : Bytes) (s : Position) → s.text.bytes ≡ b → s.at ≡ 0 → (depth : ℕ) (t : LinkerScript) (j : ℕ) → script s.text.bytes depth s.at t j → tree_within depth b t
 unfolding tree_within
-from_place b s e g depth t j h =
+from_position b s e g depth t j h =
     let there : script b depth 0 t j = subst (λ (n : ℕ). script b depth n t j) g (subst (λ (n : Bytes). script n depth s.at t j) e h) in
     subst (λ (n : ℕ). script b depth 0 t n) (script_ends b depth 0 t j there) there
 
-to_place : (b : Bytes) (s : Position) → s.text.bytes ≡ b → s.at ≡ 0 → (depth : ℕ) (t : LinkerScript) → tree_within depth b t → script s.text.bytes depth s.at t (length b)
+to_position : (b : Bytes) (s : Position) → s.text.bytes ≡ b → s.at ≡ 0 → (depth : ℕ) (t : LinkerScript) → tree_within depth b t → script s.text.bytes depth s.at t (length b)
 unfolding tree_within
-to_place b s e g depth t h = subst (λ (n : ℕ). script s.text.bytes depth n t (length b)) (sym g) (subst (λ (n : Bytes). script n depth 0 t (length b)) (sym e) h)
+to_position b s e g depth t h = subst (λ (n : ℕ). script s.text.bytes depth n t (length b)) (sym g) (subst (λ (n : Bytes). script n depth 0 t (length b)) (sym e) h)
 
-module _ {b : Bytes} {s : Position} (w : s.text ≡ record { bytes = b; start = 0; limit = 256 }) (g : s.at ≡ 0) (l : s.left ≡ 256) where
+module _ {b : Bytes} {s : Position} (w : s.text ≡ record { bytes = b; start = 0; limit = max_depth }) (g : s.at ≡ 0) (l : s.left ≡ max_depth) where
   same_bytes : s.text.bytes ≡ b
   same_bytes = ap (λ (t : Text). t.bytes) w
 
   pub one_tree : {t : LinkerScript} {r : Position} → IsOnly script s t r → IsTree b t
   one_tree {t} {r} p = record {
-    is = subst (λ (n : ℕ). tree_within n b t) l (from_place b s same_bytes g s.left t r.at p.reads);
-    only = λ depth u h. (p.only depth u (length b) (to_place b s same_bytes g depth u h)).0;
+    is = subst (λ (n : ℕ). tree_within n b t) l (from_position b s same_bytes g s.left t r.at p.reads);
+    only = λ depth u h. (p.only depth u (length b) (to_position b s same_bytes g depth u h)).0;
   }
 
   within_bytes : {n : ℕ} → n ≤ length s.text.bytes → n ≤ length b
   within_bytes {n} h = subst (λ (c : Bytes). n ≤ length c) same_bytes h
 
   never : ((limit : ℕ) (y : LinkerScript) (j : ℕ) → script s.text.bytes limit s.at y j → ⊥) → (depth : ℕ) (t : LinkerScript) → tree_within depth b t → ⊥
-  never h depth t k = h depth t (length b) (to_place b s same_bytes g depth t k)
+  never h depth t k = h depth t (length b) (to_position b s same_bytes g depth t k)
 
   pub no_tree : {stop : Stop} → Refuses script s stop → (fault_of stop ≡ fault.NoMemory) ⊎ IsParseFault b (fault_of stop)
   no_tree {stop = Syntax n} p = inr (record { none = never (p.never tt); within = within_bytes p.cause })
   no_tree {stop = OpenComment n} p = inr (record { none = never (p.never tt); comment = subst (λ (c : Bytes). IsOpenComment c n) same_bytes p.cause })
   no_tree {stop = NestedSort n} p = inr (record { none = never (p.never tt); sort = subst (λ (c : Bytes). IsNestedSort c n) same_bytes p.cause })
   no_tree {stop = TooDeep n} p =
-      let marks = subst (λ (t : Text). place.mark_count t.bytes t.start + t.limit ≤ place.mark_count t.bytes n) w p.cause.marks in
+      let marks = subst (λ (t : Text). positions.mark_count t.bytes t.start + t.limit ≤ positions.mark_count t.bytes n) w p.cause.marks in
       inr (record {
-        none = λ t h. p.none tt t (length b) (to_place b s same_bytes g s.left t (subst (λ (m : ℕ). tree_within m b t) (sym l) h));
+        none = λ t h. p.none tt t (length b) (to_position b s same_bytes g s.left t (subst (λ (m : ℕ). tree_within m b t) (sym l) h));
         marks = omega (arith, marks);
         within = within_bytes p.cause.within;
       })

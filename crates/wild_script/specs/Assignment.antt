@@ -11,6 +11,7 @@ use Rattle.wild_expression_words.specs.declared.operators.Level.TheVariants.{Ter
 use Rattle.wild_expression_words.specs.declared.operators.Operator.{Operator}
 use Rattle.wild_expression_words.specs.declared.operators.Operator.TheVariants as o
 use Rattle.wild_expression_words.specs.Operators.{node}
+use Rattle.wild_expression_words.specs.Words.{is_counter}
 use Rattle.wild_expression.specs.Grammar.{inner_value}
 use Rattle.wild_expression.specs.Parts.{expression}
 
@@ -20,10 +21,11 @@ use Rattle.wild_expression.specs.Parts.{expression}
 unfoldable pub begins_set : Bytes → ℕ → Bool
 begins_set b i = begins 61 b i && not (begins 61 b (i + 1) || begins 47 b (i + 1))
 
+-- the byte, twice
 abbrev pub begins_twice : ℕ → Bytes → ℕ → Bool
 begins_twice c b i = begins c b i && begins c b (i + 1)
 
--- one of `+ - * / << >> & | ^`, and the position behind it
+-- one of `+ - * / << >> & | ^`, and the position after it
 unfoldable pub change_at : Bytes → ℕ → Option (Operator × ℕ)
 change_at b i =
     if begins 43 b i then Some (o.Add, i + 1) else (
@@ -36,6 +38,7 @@ change_at b i =
     if begins 124 b i then Some (o.BitwiseOr, i + 1) else (
     if begins 94 b i then Some (o.BitwiseXor, i + 1) else None))))))))
 
+-- `=` is at the end of what was found
 abbrev pub is_before_equal : Bytes → Option (Operator × ℕ) → Bool
 is_before_equal b None = false
 is_before_equal b (Some found) = begins 61 b found.1
@@ -44,21 +47,19 @@ is_before_equal b (Some found) = begins 61 b found.1
 unfoldable pub begins_change : Bytes → ℕ → Bool
 begins_change b i = is_before_equal b (change_at b i)
 
+-- an assignment operator is ahead
 unfoldable pub begins_assignment : Bytes → ℕ → Bool
 begins_assignment b i = begins_set b i || begins_change b i
 
 -- ---- values
 
-unfoldable pub is_dot : List ℕ → Bool
-is_dot name = bytes_eq name (codes ".")
-
 -- what a name stands for in an expression
 abbrev pub target_of : List ℕ → Expression
-target_of name = if is_dot name then e.LocationCounter else e.Symbol name
+target_of name = if is_counter name then e.LocationCounter else e.Symbol name
 
 -- the name changed by the operator
-abbrev pub changed : Operator → List ℕ → Expression → Expression
-changed op name x = node op (target_of name) x
+abbrev pub change_node : Operator → List ℕ → Expression → Expression
+change_node op name x = node op (target_of name) x
 
 -- `=`, and an expression
 unfoldable pub set_value : Reader Expression
@@ -68,6 +69,7 @@ set_value = do
   gap
   Give x
 
+-- one of these operators
 unfoldable pub change : Reader Operator
 change = Takes change_at
 
@@ -78,22 +80,22 @@ changed_value name = do
   symbol 61
   x ← inner_value Ternary
   gap
-  Give (changed op name x.expression)
+  Give (change_node op name x.expression)
 
 -- what is assigned to a name
-unfoldable pub assigned : List ℕ → Reader Expression
-assigned name = Choice begins_set set_value (changed_value name)
+unfoldable pub assigned_value : List ℕ → Reader Expression
+assigned_value name = Choice begins_set set_value (changed_value name)
 
 -- what is assigned to a name; a semicolon or none
 unfoldable pub open_value : List ℕ → Reader Expression
 open_value name = do
-  x ← assigned name
+  x ← assigned_value name
   optional_symbol 59
   Give x
 
 -- what is assigned to a name, and a semicolon
 unfoldable pub closed_value : List ℕ → Reader Expression
 closed_value name = do
-  x ← assigned name
+  x ← assigned_value name
   symbol 59
   Give x

@@ -1,4 +1,4 @@
--- What stands in output sections.
+-- What is in output sections.
 use Rattle.std.specs.Prelude.{ℕ, false, List, Option, Some, None}
 use Rattle.wild_reading.specs.Bytes.{begins}
 use Rattle.wild_reading.specs.Reader.{Reader, ◌>>=◌, ◌>>◌, Give, Nothing, Until}
@@ -11,39 +11,42 @@ use Rattle.wild_script.specs.declared.words.ContentsWord.TheVariants as k
 use Rattle.wild_script.specs.declared.tree.ContentsCommand.{ContentsCommand}
 use Rattle.wild_script.specs.declared.tree.ContentsCommand.TheVariants.{Matcher}
 
--- behind KEEP; a semicolon or none
+-- after KEEP; a semicolon or none
 unfoldable pub keep_statement : Reader ContentsCommand
 keep_statement = do
   read ← keep_matcher
   optional_symbol 59
   Give (Matcher read)
 
--- behind the token of a file; a semicolon or none
+-- after the token of a file; a semicolon or none
 unfoldable pub file_statement : List ℕ → Reader ContentsCommand
 file_statement file = do
   read ← file_matcher false file
   optional_symbol 59
   Give (Matcher read)
 
--- behind the word of a statement
+-- after the word of a statement
 abbrev pub word_statement : ContentsWord → Reader ContentsCommand
 word_statement k.Provide = Nothing
 word_statement k.ProvideHidden = Nothing
 word_statement k.Assert = Nothing
 word_statement k.Keep = keep_statement
 
-abbrev pub statement_behind : List ℕ → Option ContentsWord → Reader ContentsCommand
-statement_behind file None = file_statement file
-statement_behind file (Some found) = word_statement found
+-- the word decides
+abbrev pub after_statement_word : List ℕ → Option ContentsWord → Reader ContentsCommand
+after_statement_word file None = file_statement file
+after_statement_word file (Some found) = word_statement found
 
--- behind the first token of a statement
-unfoldable pub behind : lexis.Word → Reader ContentsCommand
-behind first = statement_behind first.content (contents_word first)
+-- after the first token of a statement
+unfoldable pub after_first : lexis.Word → Reader ContentsCommand
+after_first first = after_statement_word first.content (contents_word first)
 
+-- a statement in a section
 unfoldable pub contents_statement : Reader ContentsCommand
 contents_statement = do
   first ← word
-  behind first
+  after_first first
 
+-- statements up to a brace
 unfoldable pub contents : Reader (List ContentsCommand)
 contents = Until (begins 125) contents_statement

@@ -15,13 +15,13 @@ is_every_file content = bytes_eq content (codes "*")
 unfoldable pub file_pattern : Bytes → Option (List ℕ)
 file_pattern content = if is_every_file content then None else Some content
 
--- behind the token of its file: patterns in brackets
+-- after the token of its file: patterns in brackets
 unfoldable pub file_matcher : Bool → Bytes → Reader tree.Matcher
 file_matcher must_keep file = do
   patterns ← pattern_list
   Give (record { must_keep = must_keep; input_file_pattern = file_pattern file; input_section_name_patterns = patterns })
 
--- behind KEEP: in brackets a token, directly behind the first, and patterns
+-- after KEEP: in brackets a token, directly after the first, and patterns
 unfoldable pub keep_matcher : Reader tree.Matcher
 keep_matcher = do
   byte 40

@@ -7,14 +7,16 @@ use Rattle.wild_expression.specs.Parts.{assert_body}
 use Rattle.wild_script.specs.Words.{command_word}
 use Rattle.wild_script.specs.declared.words.CommandWord.{CommandWord}
 use Rattle.wild_script.specs.declared.words.CommandWord.TheVariants as c
-use Rattle.wild_script.specs.Assignment.{is_dot, open_value}
-use Rattle.wild_script.specs.Provide.{provided}
+use Rattle.wild_expression_words.specs.Words.{is_counter}
+use Rattle.wild_script.specs.Assignment.{open_value}
+use Rattle.wild_script.specs.Provide.{provide_body}
 use Rattle.wild_script.specs.Section.{statement}
 use Rattle.wild_script.specs.declared.tree.Sections as kept
 use Rattle.wild_script.specs.declared.tree.SectionCommand.{SectionCommand}
 use Rattle.wild_script.specs.declared.tree.Command.{Command}
 use Rattle.wild_script.specs.declared.tree.Command.TheVariants as variant
 
+-- statements up to a brace
 unfoldable pub section_statements : Reader (List SectionCommand)
 section_statements = Until (begins 125) statement
 
@@ -26,6 +28,7 @@ sections = do
   symbol 125
   Give (record { commands = statements })
 
+-- after SECTIONS
 unfoldable pub sections_command : Reader Command
 sections_command = do
   read ← sections
@@ -38,9 +41,10 @@ assert_command = do
   optional_symbol 59
   Give (variant.Assert body)
 
+-- after PROVIDE or PROVIDE_HIDDEN
 unfoldable pub provide_command : Bool → Reader Command
 provide_command is_hidden = do
-  provide ← provided is_hidden
+  provide ← provide_body is_hidden
   Give (variant.Provide provide)
 
 -- what is assigned to the location counter
@@ -55,10 +59,11 @@ symbol_definition name = do
   x ← open_value name
   Give (variant.SymbolDefinition name x)
 
+-- what is assigned to a name
 unfoldable pub assignment_command : List ℕ → Reader Command
-assignment_command name = If (is_dot name) (location_command name) (symbol_definition name)
+assignment_command name = If (is_counter name) (location_command name) (symbol_definition name)
 
--- behind the word of a command
+-- after the word of a command
 abbrev pub word_command : CommandWord → Reader Command
 word_command c.Group = Nothing
 word_command c.Input = Nothing
@@ -74,15 +79,17 @@ word_command c.Assert = assert_command
 word_command c.Memory = Nothing
 word_command c.Phdrs = Nothing
 
-abbrev pub command_behind : List ℕ → Option CommandWord → Reader Command
-command_behind first None = assignment_command first
-command_behind first (Some word) = word_command word
+-- the word decides
+abbrev pub after_command_word : List ℕ → Option CommandWord → Reader Command
+after_command_word first None = assignment_command first
+after_command_word first (Some word) = word_command word
 
--- behind the first token of a command
-unfoldable pub behind_word : List ℕ → Reader Command
-behind_word first = command_behind first (command_word first)
+-- after the first token of a command
+unfoldable pub after_word : List ℕ → Reader Command
+after_word first = after_command_word first (command_word first)
 
+-- an outermost command
 unfoldable pub command : Reader Command
 command = do
   first ← word
-  behind_word first.content
+  after_word first.content

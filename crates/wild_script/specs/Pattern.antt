@@ -4,6 +4,7 @@ use Rattle.wild_reading.specs.Position.{Bytes}
 use Rattle.wild_reading.specs.Bytes.{begins, begins_with}
 use Rattle.wild_reading.specs.Reader.{Reader, ◌>>=◌, ◌>>◌, Give, Ahead, Choice, Until}
 use Rattle.wild_reading.specs.Lex as lexis
+use Rattle.wild_reading.specs.declared.classes.Class.TheVariants as k
 use Rattle.wild_script.specs.declared.tree.SectionPattern.{SectionPattern}
 
 -- ---- sort words
@@ -16,13 +17,15 @@ begins_sort b i = begins_with (codes "SORT") b i
 unfoldable pub begins_alignment : Bytes → ℕ → Bool
 begins_alignment b i = begins_with (codes "SORT_BY_ALIGNMENT") b i
 
+-- `SORT` is not ahead
 unfoldable pub has_no_sort : Bytes → ℕ → Bool
 has_no_sort b i = not (begins_sort b i)
 
+-- as a step
 unfoldable pub no_sort : Reader (Unit {0})
 no_sort = Ahead has_no_sort
 
--- a sort word and its bracket, with no other sort word directly behind it
+-- a sort word and its bracket, with no other sort word directly after it
 unfoldable pub sort_open : Reader (Unit {0})
 sort_open = do
   lexis.sort_bracket
@@ -34,7 +37,7 @@ sort_open = do
 unfoldable pub pattern_name : Reader (List ℕ)
 pattern_name = do
   lexis.gap
-  word ← lexis.pattern
+  word ← lexis.run k.Pattern
   lexis.gap
   Give word.content
 
@@ -56,9 +59,11 @@ sort_pattern is_sorted = do
 unfoldable pub word_pattern : Reader SectionPattern
 word_pattern = Choice begins_alignment (sort_pattern false) (sort_pattern true)
 
+-- a pattern with a sort word where `SORT` is ahead
 unfoldable pub pattern : Reader SectionPattern
 pattern = Choice begins_sort word_pattern bare_pattern
 
+-- patterns up to a bracket
 unfoldable pub patterns : Reader (List SectionPattern)
 patterns = Until (begins 41) pattern
 

@@ -6,8 +6,8 @@ use Rattle.wild_expression.specs.Parts.{expression}
 use Rattle.wild_script.specs.declared.tree.ProvideSymbolDefinition.{ProvideSymbolDefinition}
 
 -- in brackets a name, `=` and an expression; a semicolon or none
-unfoldable pub provided : Bool → Reader ProvideSymbolDefinition
-provided is_hidden = do
+unfoldable pub provide_body : Bool → Reader ProvideSymbolDefinition
+provide_body is_hidden = do
   symbol 40
   target ← name
   symbol 61

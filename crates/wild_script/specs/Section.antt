@@ -9,8 +9,9 @@ use Rattle.wild_expression.specs.Parts.{assert_body}
 use Rattle.wild_script.specs.Words.{statement_word}
 use Rattle.wild_script.specs.declared.words.StatementWord.{StatementWord}
 use Rattle.wild_script.specs.declared.words.StatementWord.TheVariants as s
-use Rattle.wild_script.specs.Assignment.{is_dot, begins_assignment, closed_value}
-use Rattle.wild_script.specs.Provide.{provided}
+use Rattle.wild_expression_words.specs.Words.{is_counter}
+use Rattle.wild_script.specs.Assignment.{begins_assignment, closed_value}
+use Rattle.wild_script.specs.Provide.{provide_body}
 use Rattle.wild_script.specs.Contents.{contents}
 use Rattle.wild_script.specs.declared.tree.SectionCommand.{SectionCommand}
 use Rattle.wild_script.specs.declared.tree.SectionCommand.TheVariants as command
@@ -23,10 +24,11 @@ is_section_name name = not (bytes_eq name [])
 unfoldable pub has_no_tail : Bytes → ℕ → Bool
 has_no_tail b i = not (begins 58 b i || begins 62 b i || begins 61 b i)
 
+-- as a step
 unfoldable pub no_tail : Reader (Unit {0})
 no_tail = Ahead has_no_tail
 
--- behind a name: a colon, and statements in braces; a comma or none
+-- after a name: a colon, and statements in braces; a comma or none
 unfoldable pub section : List ℕ → Reader SectionCommand
 section name = do
   check (is_section_name name)
@@ -44,9 +46,10 @@ assert_statement = do
   body ← assert_body
   Give (command.Assert body)
 
+-- after PROVIDE or PROVIDE_HIDDEN
 unfoldable pub provide_statement : Bool → Reader SectionCommand
 provide_statement is_hidden = do
-  provide ← provided is_hidden
+  provide ← provide_body is_hidden
   Give (command.Provide provide)
 
 -- what is assigned to the location counter
@@ -61,28 +64,31 @@ symbol_assignment name = do
   x ← closed_value name
   Give (command.SymbolAssignment (record { name = name; expr = x }))
 
+-- what is assigned to a name, and a semicolon
 unfoldable pub assignment : List ℕ → Reader SectionCommand
-assignment name = If (is_dot name) (location name) (symbol_assignment name)
+assignment name = If (is_counter name) (location name) (symbol_assignment name)
 
+-- after a name
 unfoldable pub assignment_or_section : List ℕ → Reader SectionCommand
 assignment_or_section name = Choice begins_assignment (assignment name) (section name)
 
--- behind the word of a statement
+-- after the word of a statement
 abbrev pub word_statement : StatementWord → Reader SectionCommand
 word_statement s.Assert = assert_statement
 word_statement s.Provide = provide_statement false
 word_statement s.ProvideHidden = provide_statement true
 
-abbrev pub statement_behind : List ℕ → Option StatementWord → Reader SectionCommand
-statement_behind first None = assignment_or_section first
-statement_behind first (Some word) = word_statement word
+-- the word decides
+abbrev pub after_statement_word : List ℕ → Option StatementWord → Reader SectionCommand
+after_statement_word first None = assignment_or_section first
+after_statement_word first (Some word) = word_statement word
 
--- behind the first token of a statement
-unfoldable pub behind : List ℕ → Reader SectionCommand
-behind first = statement_behind first (statement_word first)
+-- after the first token of a statement
+unfoldable pub after_first : List ℕ → Reader SectionCommand
+after_first first = after_statement_word first (statement_word first)
 
 -- a statement in SECTIONS
 unfoldable pub statement : Reader SectionCommand
 statement = do
   name ← word
-  behind name.content
+  after_first name.content

@@ -2,7 +2,8 @@
 use Rattle.std.specs.Prelude.{◌≡◌, ℕ, ◌≤◌, List, length}
 use Rattle.wild_names.specs.declared.fault.Fault.{Fault}
 use Rattle.wild_names.specs.declared.fault.Fault.TheVariants.{Syntax, UnclosedComment, UnsupportedNestedSort, TooDeep}
-use Rattle.wild_reading.specs.Position as place
+use Rattle.wild_reading.specs.Position as positions
+use Rattle.wild_reading.specs.Position.{max_depth}
 use Rattle.wild_reading.specs.Bytes.{is_end}
 use Rattle.wild_reading.specs.Reader.{Reader, ◌>>=◌, ◌>>◌, Give, Until}
 use Rattle.wild_reading.specs.Lex.{gap}
@@ -11,14 +12,17 @@ use Rattle.wild_script.specs.Outermost.{command}
 use Rattle.wild_script.specs.declared.tree.LinkerScript.{LinkerScript}
 use Rattle.wild_script.specs.declared.tree.Command.{Command}
 
+-- the bytes of a script
 abbrev pub Bytes : Type 0
-Bytes = place.Bytes
+Bytes = positions.Bytes
 
 -- ---- scripts
 
+-- commands to the end of the bytes
 unfoldable pub commands : Reader (List Command)
 commands = Until is_end command
 
+-- a gap and commands
 unfoldable pub script : Reader LinkerScript
 script = do
   gap
@@ -31,9 +35,9 @@ script = do
 unfoldable pub tree_within : ℕ → Bytes → LinkerScript → Type 0
 tree_within depth b t = script b depth 0 t (length b)
 
--- the whole of the bytes is read as this tree, of depth at most 256
+-- the whole of the bytes is read as this tree, within the limit of depth
 abbrev pub tree : Bytes → LinkerScript → Type 0
-tree b t = tree_within 256 b t
+tree b t = tree_within max_depth b t
 
 -- it is a tree of the bytes, and no other is, of whatever depth
 pub record IsTree (b : Bytes) (t : LinkerScript) : Type 0 where
@@ -42,6 +46,7 @@ pub record IsTree (b : Bytes) (t : LinkerScript) : Type 0 where
 
 -- ---- no tree
 
+-- the bytes have no tree within that depth
 abbrev pub HasNone : ℕ → Bytes → Type 0
 HasNone depth b = (t : LinkerScript) → tree_within depth b t → ⊥
 
@@ -55,15 +60,15 @@ pub record IsUnclosedComment (b : Bytes) (position : ℕ) : Type 0 where
   pub none : (depth : ℕ) → HasNone depth b
   pub comment : IsOpenComment b position
 
--- they have none of any depth, and a sort word stands at the position, directly in the brackets of another
+-- they have none of any depth, and a sort word is at the position, directly in the brackets of another
 pub record IsUnsupportedNestedSort (b : Bytes) (position : ℕ) : Type 0 where
   pub none : (depth : ℕ) → HasNone depth b
   pub sort : IsNestedSort b position
 
--- they have none of depth at most 256, and as many bytes that deepen a script stand before the position
+-- they have none within the limit of depth, and as many bytes that deepen a script are before the position
 pub record IsTooDeep (b : Bytes) (position : ℕ) : Type 0 where
-  pub none : HasNone 256 b
-  pub marks : 256 ≤ place.mark_count b position
+  pub none : HasNone max_depth b
+  pub marks : max_depth ≤ positions.mark_count b position
   pub within : position ≤ length b
 
 -- this fault says that the bytes have no tree

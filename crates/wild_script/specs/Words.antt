@@ -34,7 +34,7 @@ statement_word content =
     if bytes_eq content (codes "PROVIDE") then Some s.Provide else (
     if bytes_eq content (codes "PROVIDE_HIDDEN") then Some s.ProvideHidden else None))
 
--- the word of a statement in a section that a token is, which never stands in quotes
+-- the word of a statement in a section that a token is, which is never in quotes
 abbrev pub contents_word : Word → Option ContentsWord
 contents_word w =
     if w.quoted then None else (

@@ -8,7 +8,8 @@ ghost use Rattle.wild_script.specs.Assignment as spec;
 
 use sqlite_items::Boxed;
 use std::alloc::Global;
-use wild_expression::{Expression, Level, Operator, expression, inner_value, node};
+use wild_expression::{Expression, expression, inner_value};
+use wild_expression_words::{Level, Operator, is_counter, node};
 use wild_names::{Name, NoMemory};
 use wild_reading::{Cursor, Stop, begins};
 
@@ -81,18 +82,10 @@ pub fn begins_assignment(cursor: &Cursor<'_>) -> bool
     begins_set(cursor) || begins_change(cursor)
 }
 
-/// Whether a name is that of the location counter.
-#[tactic(auto, unfolding(crate::specs::Assignment::is_dot))]
-pub fn is_dot(name: &[u8]) -> bool
-    ensures { result ≡ spec.is_dot name.now }
-{
-    name == b".".as_slice()
-}
-
 fn target(alloc: Global, name: &[u8]) -> Result<Expression, NoMemory>
     ensures { IfOk result (λ x. x ≡ spec.target_of name.now) }
 {
-    if is_dot(name) {
+    if is_counter(name) {
         Ok(Expression::LocationCounter)
     } else {
         Ok(Expression::Symbol(Name::new(alloc, name)?))
@@ -100,13 +93,13 @@ fn target(alloc: Global, name: &[u8]) -> Result<Expression, NoMemory>
 }
 
 // The name changed by the operator.
-fn changed(
+fn change_node(
     alloc: Global,
     operator: Operator,
     name: &[u8],
     operand: Boxed<Expression>,
 ) -> Result<Boxed<Expression>, NoMemory>
-    ensures { IfOk result (λ x. x ≡ spec.changed operator name.now operand) }
+    ensures { IfOk result (λ x. x ≡ spec.change_node operator name.now operand) }
 {
     let target = Boxed::new(alloc, target(alloc, name)?)?;
     Ok(Boxed::new(alloc, node(operator, target, operand))?)
@@ -151,14 +144,18 @@ fn changed_value(
     cursor.symbol(b'=')?;
     let operand = inner_value(cursor, alloc, Level::Ternary)?;
     cursor.gap()?;
-    let value = changed(alloc, operator, name, operand.expression)?;
+    let value = change_node(alloc, operator, name, operand.expression)?;
     Ok(value)
 }
 
-// An operator and an expression, each with the gap behind it: the value that is assigned to the name.
-#[tactic(auto, using(wild_reading::proofs::Readers::choosing), unfolding(crate::specs::Assignment::assigned))]
-fn assigned(cursor: &mut Cursor<'_>, alloc: Global, name: &[u8]) -> Result<Boxed<Expression>, Stop>
-    ensures read { Answers (spec.assigned name.now) cursor.old cursor.new result }
+// An operator and an expression, each with the gap after it: the value that is assigned to the name.
+#[tactic(auto, using(wild_reading::proofs::Readers::choosing), unfolding(crate::specs::Assignment::assigned_value))]
+fn assigned_value(
+    cursor: &mut Cursor<'_>,
+    alloc: Global,
+    name: &[u8],
+) -> Result<Boxed<Expression>, Stop>
+    ensures read { Answers (spec.assigned_value name.now) cursor.old cursor.new result }
     ensures shorter { OnOk result (ahead cursor.new < ahead cursor.old) }
 {
     if begins_set(cursor) {
@@ -177,7 +174,7 @@ pub fn open_value(
 ) -> Result<Boxed<Expression>, Stop>
     ensures { Answers (spec.open_value name.now) cursor.old cursor.new result }
 {
-    let value = assigned(cursor, alloc, name)?;
+    let value = assigned_value(cursor, alloc, name)?;
     cursor.optional_symbol(b';')?;
     Ok(value)
 }
@@ -191,7 +188,7 @@ pub fn closed_value(
 ) -> Result<Boxed<Expression>, Stop>
     ensures { Answers (spec.closed_value name.now) cursor.old cursor.new result }
 {
-    let value = assigned(cursor, alloc, name)?;
+    let value = assigned_value(cursor, alloc, name)?;
     cursor.symbol(b';')?;
     Ok(value)
 }

@@ -1,4 +1,4 @@
-//! Reads what stands in output sections.
+//! Reads what is in output sections.
 
 ghost use Rattle.std.specs.Prelude.{◌<◌, OnOk};
 ghost use Rattle.wild_reading.specs.Only.{Answers};
@@ -7,7 +7,7 @@ ghost use Rattle.wild_script.specs.Contents as spec;
 
 use crate::matcher::{file_matcher, keep_matcher};
 use crate::tree::ContentsCommand;
-use crate::words::{ContentsWord, contents_word, nothing};
+use crate::words::{ContentsWord, contents_word};
 use sqlite_items::Items;
 use std::alloc::Global;
 use wild_reading::{Cursor, Grammar, Stop, Token, read_until};
@@ -44,18 +44,18 @@ fn word_statement(
     match word {
         ContentsWord::Keep => keep_statement(cursor, alloc),
         ContentsWord::Provide | ContentsWord::ProvideHidden | ContentsWord::Assert => {
-            nothing(cursor)
+            cursor.nothing()
         }
     }
 }
 
-#[tactic(auto, unfolding(crate::specs::Contents::behind))]
-fn behind(
+#[tactic(auto, unfolding(crate::specs::Contents::after_first))]
+fn after_first(
     cursor: &mut Cursor<'_>,
     alloc: Global,
     first: &Token<'_>,
 ) -> Result<ContentsCommand, Stop>
-    ensures { Answers (spec.behind first.now) cursor.old cursor.new result }
+    ensures { Answers (spec.after_first first.now) cursor.old cursor.new result }
 {
     match contents_word(first) {
         None => file_statement(cursor, alloc, first.content()),
@@ -69,7 +69,7 @@ fn contents_statement(cursor: &mut Cursor<'_>, alloc: Global) -> Result<Contents
     ensures shorter { OnOk result (ahead cursor.new < ahead cursor.old) }
 {
     let first = cursor.word()?;
-    behind(cursor, alloc, &first)
+    after_first(cursor, alloc, &first)
 }
 
 impl Grammar for ContentsCommand {

@@ -28,7 +28,7 @@ fn file_pattern(alloc: Global, content: &[u8]) -> Result<Option<Name>, NoMemory>
     }
 }
 
-/// Reads what stands behind the token of the file.
+/// Reads what is after the token of the file.
 #[tactic(auto, using(wild_reading::proofs::Readers::reading), unfolding(crate::specs::Matcher::file_matcher))]
 pub fn file_matcher(
     cursor: &mut Cursor<'_>,
@@ -47,7 +47,7 @@ pub fn file_matcher(
     })
 }
 
-/// Reads what stands behind KEEP.
+/// Reads what is after KEEP.
 #[tactic(auto, using(wild_reading::proofs::Readers::reading), unfolding(crate::specs::Matcher::keep_matcher))]
 pub fn keep_matcher(cursor: &mut Cursor<'_>, alloc: Global) -> Result<Matcher, Stop>
     ensures { Answers spec.keep_matcher cursor.old cursor.new result }

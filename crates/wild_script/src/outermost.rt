@@ -5,13 +5,14 @@ ghost use Rattle.wild_reading.specs.Only.{Answers};
 ghost use Rattle.wild_reading.specs.Position.{ahead};
 ghost use Rattle.wild_script.specs.Outermost as spec;
 
-use crate::assignment::{is_dot, open_value};
-use crate::provide::provided;
+use crate::assignment::open_value;
+use crate::provide::provide_body;
 use crate::tree::{Command, Location, SectionCommand, Sections};
-use crate::words::{CommandWord, command_word, nothing};
+use crate::words::{CommandWord, command_word};
 use sqlite_items::Items;
 use std::alloc::Global;
 use wild_expression::assert_body;
+use wild_expression_words::is_counter;
 use wild_names::Name;
 use wild_reading::{Cursor, Stop, read_until};
 
@@ -53,7 +54,7 @@ fn assert_command(cursor: &mut Cursor<'_>, alloc: Global) -> Result<Command, Sto
 fn provide_command(cursor: &mut Cursor<'_>, alloc: Global, hidden: bool) -> Result<Command, Stop>
     ensures { Answers (spec.provide_command hidden) cursor.old cursor.new result }
 {
-    let provide = provided(cursor, alloc, hidden)?;
+    let provide = provide_body(cursor, alloc, hidden)?;
     Ok(Command::Provide(provide))
 }
 
@@ -83,7 +84,7 @@ fn symbol_definition(cursor: &mut Cursor<'_>, alloc: Global, name: &[u8]) -> Res
 fn assignment_command(cursor: &mut Cursor<'_>, alloc: Global, name: &[u8]) -> Result<Command, Stop>
     ensures { Answers (spec.assignment_command name.now) cursor.old cursor.new result }
 {
-    if is_dot(name) {
+    if is_counter(name) {
         location_command(cursor, alloc, name)
     } else {
         symbol_definition(cursor, alloc, name)
@@ -106,13 +107,13 @@ fn word_command(cursor: &mut Cursor<'_>, alloc: Global, word: CommandWord) -> Re
         | CommandWord::Entry
         | CommandWord::Version
         | CommandWord::Memory
-        | CommandWord::Phdrs => nothing(cursor),
+        | CommandWord::Phdrs => cursor.nothing(),
     }
 }
 
-#[tactic(auto, unfolding(crate::specs::Outermost::behind_word))]
-fn behind_word(cursor: &mut Cursor<'_>, alloc: Global, name: &[u8]) -> Result<Command, Stop>
-    ensures { Answers (spec.behind_word name.now) cursor.old cursor.new result }
+#[tactic(auto, unfolding(crate::specs::Outermost::after_word))]
+fn after_word(cursor: &mut Cursor<'_>, alloc: Global, name: &[u8]) -> Result<Command, Stop>
+    ensures { Answers (spec.after_word name.now) cursor.old cursor.new result }
 {
     match command_word(name) {
         None => assignment_command(cursor, alloc, name),
@@ -127,5 +128,5 @@ pub fn command(cursor: &mut Cursor<'_>, alloc: Global) -> Result<Command, Stop>
     ensures shorter { OnOk result (ahead cursor.new < ahead cursor.old) }
 {
     let first = cursor.word()?;
-    behind_word(cursor, alloc, first.content())
+    after_word(cursor, alloc, first.content())
 }

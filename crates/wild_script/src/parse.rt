@@ -8,10 +8,7 @@ use crate::script::script;
 use crate::tree::LinkerScript;
 use std::alloc::Global;
 use wild_names::Fault;
-use wild_reading::Cursor;
-
-/// How deep a script may be.
-const MAX_DEPTH: u32 = 256;
+use wild_reading::{Cursor, MAX_DEPTH};
 
 impl LinkerScript {
     /// Reads the whole of the bytes as a script.

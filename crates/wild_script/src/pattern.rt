@@ -13,7 +13,7 @@ use crate::tree::SectionPattern;
 use sqlite_items::Items;
 use std::alloc::Global;
 use wild_names::Name;
-use wild_reading::{Cursor, Grammar, Stop, read_until};
+use wild_reading::{Class, Cursor, Grammar, Stop, read_until};
 
 #[tactic(auto, unfolding(wild_reading::specs::Bytes::begins_with))]
 fn begins_with(bytes: &[u8], at: usize, text: &[u8]) -> bool
@@ -24,7 +24,7 @@ fn begins_with(bytes: &[u8], at: usize, text: &[u8]) -> bool
     bytes[at..].starts_with(text)
 }
 
-// The position behind the sort word at a position.
+// The position after the sort word at a position.
 #[tactic(auto, unfolding(wild_reading::specs::Lex::after_sort_word))]
 fn after_sort_word(bytes: &[u8], at: usize) -> Option<usize>
     requires { at ≤ length bytes.now }
@@ -82,7 +82,7 @@ fn sort_bracket(cursor: &mut Cursor<'_>) -> Result<(), Stop>
     Ok(())
 }
 
-// A sort word and its bracket, with no other sort word directly behind it.
+// A sort word and its bracket, with no other sort word directly after it.
 #[tactic(auto, using(crate::proofs::Sorts::opening))]
 fn sort_open(cursor: &mut Cursor<'_>) -> Result<(), Stop>
     ensures read { Answers spec.sort_open cursor.old cursor.new result }
@@ -105,7 +105,7 @@ fn pattern_name(cursor: &mut Cursor<'_>, alloc: Global) -> Result<Name, Stop>
     ensures shorter { OnOk result (ahead cursor.new < ahead cursor.old) }
 {
     cursor.gap()?;
-    let word = cursor.pattern()?;
+    let word = cursor.run(Class::Pattern)?;
     cursor.gap()?;
     let name = Name::new(alloc, word.content())?;
     Ok(name)

@@ -10,14 +10,14 @@ use std::alloc::Global;
 use wild_expression::expression;
 use wild_reading::{Cursor, Stop};
 
-/// Reads what stands behind PROVIDE or PROVIDE_HIDDEN.
-#[tactic(auto, using(wild_reading::proofs::Readers::reading), unfolding(crate::specs::Provide::provided))]
-pub fn provided(
+/// Reads what is after PROVIDE or PROVIDE_HIDDEN.
+#[tactic(auto, using(wild_reading::proofs::Readers::reading), unfolding(crate::specs::Provide::provide_body))]
+pub fn provide_body(
     cursor: &mut Cursor<'_>,
     alloc: Global,
     hidden: bool,
 ) -> Result<ProvideSymbolDefinition, Stop>
-    ensures read { Answers (spec.provided hidden) cursor.old cursor.new result }
+    ensures read { Answers (spec.provide_body hidden) cursor.old cursor.new result }
     ensures shorter { OnOk result (ahead cursor.new < ahead cursor.old) }
 {
     cursor.symbol(b'(')?;

@@ -5,14 +5,15 @@ ghost use Rattle.wild_reading.specs.Only.{Answers};
 ghost use Rattle.wild_reading.specs.Position.{ahead};
 ghost use Rattle.wild_script.specs.Section as spec;
 
-use crate::assignment::{begins_assignment, closed_value, is_dot};
+use crate::assignment::{begins_assignment, closed_value};
 use crate::contents::contents;
-use crate::provide::provided;
+use crate::provide::provide_body;
 use crate::tree::{Location, Section, SectionCommand, SymbolAssignment};
 use crate::words::{StatementWord, statement_word};
 use sqlite_items::Boxed;
 use std::alloc::Global;
 use wild_expression::assert_body;
+use wild_expression_words::is_counter;
 use wild_names::Name;
 use wild_reading::{Cursor, Grammar, Stop};
 
@@ -43,7 +44,7 @@ fn no_tail(cursor: &Cursor<'_>) -> Result<(), Stop>
     }
 }
 
-// What stands behind the name of a section.
+// What is after the name of a section.
 #[tactic(auto, using(wild_reading::proofs::Readers::reading), unfolding(crate::specs::Section::section))]
 fn section(cursor: &mut Cursor<'_>, alloc: Global, name: &[u8]) -> Result<SectionCommand, Stop>
     ensures { Answers (spec.«section» name.now) cursor.old cursor.new result }
@@ -79,7 +80,7 @@ fn provide_statement(
 ) -> Result<SectionCommand, Stop>
     ensures { Answers (spec.provide_statement hidden) cursor.old cursor.new result }
 {
-    let provide = provided(cursor, alloc, hidden)?;
+    let provide = provide_body(cursor, alloc, hidden)?;
     Ok(SectionCommand::Provide(provide))
 }
 
@@ -113,7 +114,7 @@ fn symbol_assignment(
 fn assignment(cursor: &mut Cursor<'_>, alloc: Global, name: &[u8]) -> Result<SectionCommand, Stop>
     ensures { Answers (spec.assignment name.now) cursor.old cursor.new result }
 {
-    if is_dot(name) {
+    if is_counter(name) {
         location(cursor, alloc, name)
     } else {
         symbol_assignment(cursor, alloc, name)
@@ -149,9 +150,9 @@ fn word_statement(
     }
 }
 
-#[tactic(auto, unfolding(crate::specs::Section::behind))]
-fn behind(cursor: &mut Cursor<'_>, alloc: Global, name: &[u8]) -> Result<SectionCommand, Stop>
-    ensures { Answers (spec.behind name.now) cursor.old cursor.new result }
+#[tactic(auto, unfolding(crate::specs::Section::after_first))]
+fn after_first(cursor: &mut Cursor<'_>, alloc: Global, name: &[u8]) -> Result<SectionCommand, Stop>
+    ensures { Answers (spec.after_first name.now) cursor.old cursor.new result }
 {
     match statement_word(name) {
         None => assignment_or_section(cursor, alloc, name),
@@ -165,7 +166,7 @@ fn statement(cursor: &mut Cursor<'_>, alloc: Global) -> Result<SectionCommand, S
     ensures shorter { OnOk result (ahead cursor.new < ahead cursor.old) }
 {
     let name = cursor.word()?;
-    behind(cursor, alloc, name.content())
+    after_first(cursor, alloc, name.content())
 }
 
 impl Grammar for SectionCommand {

@@ -1,8 +1,10 @@
 use crate::{
-    Command, ContentsCommand, LinkerScript, Matcher, ProvideSymbolDefinition, Section,
-    SectionCommand, SectionPattern, Sections, skip_comments_and_whitespace,
+    AssertCommand, Command, ContentsCommand, Expression, LinkerScript, Matcher,
+    ProvideSymbolDefinition, Section, SectionCommand, SectionPattern, Sections,
+    skip_comments_and_whitespace,
 };
 use std::alloc::{AllocError, Global};
+use std::process::Abort;
 use std::test::Fail;
 use wild_names::{Fault, Name};
 
@@ -13,18 +15,19 @@ fn push_name(out: &mut String, name: &Name) -> Result<(), AllocError> {
     Ok(())
 }
 
+// A mark where it is sorted, and the name.
 fn push_pattern(out: &mut String, pattern: &SectionPattern) -> Result<(), AllocError> {
-    push_name(out, &pattern.name)?;
     if pattern.sorted {
         out.push('^')?;
     }
+    push_name(out, &pattern.name)?;
     out.push(' ')
 }
 
 // A mark where it is kept, the file pattern, and the patterns in brackets.
 fn push_matcher(out: &mut String, matcher: &Matcher) -> Result<(), AllocError> {
     if matcher.must_keep {
-        out.push('k')?;
+        out.push('!')?;
     }
     if let Some(file) = &matcher.input_file_pattern {
         out.push('<')?;
@@ -48,51 +51,72 @@ fn push_section(out: &mut String, section: &Section) -> Result<(), AllocError> {
     out.push(';')
 }
 
-fn push_marked(out: &mut String, mark: char, name: &Name) -> Result<(), AllocError> {
-    out.push(mark)?;
-    push_name(out, name)?;
-    out.push(';')
+fn push_value(alloc: Global, out: &mut String, value: &Expression) -> Result<(), AllocError> {
+    out.push_str(format!(in alloc; "={value:?};")?.as_str())
 }
 
-fn push_provide(out: &mut String, provide: &ProvideSymbolDefinition) -> Result<(), AllocError> {
-    let mark = if provide.hidden { '-' } else { '+' };
-    push_marked(out, mark, &provide.name)
+fn push_provide(
+    alloc: Global,
+    out: &mut String,
+    provide: &ProvideSymbolDefinition,
+) -> Result<(), AllocError> {
+    out.push(if provide.hidden { '-' } else { '+' })?;
+    push_name(out, &provide.name)?;
+    push_value(alloc, out, &provide.value)
 }
 
-fn push_statement(out: &mut String, statement: &SectionCommand) -> Result<(), AllocError> {
+// The position of its bracket, its message, and its condition.
+fn push_assert(alloc: Global, out: &mut String, assert: &AssertCommand) -> Result<(), AllocError> {
+    out.push_str(format!(in alloc; "{}?", assert.at)?.as_str())?;
+    push_name(out, &assert.message)?;
+    push_value(alloc, out, assert.expression.get())
+}
+
+fn push_statement(
+    alloc: Global,
+    out: &mut String,
+    statement: &SectionCommand,
+) -> Result<(), AllocError> {
     match statement {
         SectionCommand::Section(section) => push_section(out, section.get()),
-        SectionCommand::SetLocation(_) => out.push('='),
-        SectionCommand::Assert(assert) => push_marked(out, '!', &assert.message),
-        SectionCommand::Provide(provide) => push_provide(out, provide),
-        SectionCommand::SymbolAssignment(assignment) => push_marked(out, '$', &assignment.name),
+        SectionCommand::SetLocation(location) => push_value(alloc, out, &location.address),
+        SectionCommand::Assert(assert) => push_assert(alloc, out, assert),
+        SectionCommand::Provide(provide) => push_provide(alloc, out, provide),
+        SectionCommand::SymbolAssignment(assignment) => {
+            push_name(out, &assignment.name)?;
+            push_value(alloc, out, &assignment.expr)
+        }
     }
 }
 
-fn push_sections(out: &mut String, sections: &Sections) -> Result<(), AllocError> {
+fn push_sections(alloc: Global, out: &mut String, sections: &Sections) -> Result<(), AllocError> {
+    out.push('{')?;
     for statement in sections.commands.as_slice() {
-        push_statement(out, statement)?;
+        push_statement(alloc, out, statement)?;
     }
-    out.push('.')
+    out.push('}')
 }
 
-fn push_command(out: &mut String, command: &Command) -> Result<(), AllocError> {
+fn push_command(alloc: Global, out: &mut String, command: &Command) -> Result<(), AllocError> {
     match command {
-        Command::Sections(sections) => push_sections(out, sections),
-        Command::SymbolDefinition { name, .. } => push_marked(out, '$', name),
-        Command::SetLocation(_) => out.push('='),
-        Command::Provide(provide) => push_provide(out, provide),
-        Command::Assert(assert) => push_marked(out, '!', &assert.message),
+        Command::Sections(sections) => push_sections(alloc, out, sections),
+        Command::SymbolDefinition { name, value } => {
+            push_name(out, name)?;
+            push_value(alloc, out, value)
+        }
+        Command::SetLocation(location) => push_value(alloc, out, &location.address),
+        Command::Provide(provide) => push_provide(alloc, out, provide),
+        Command::Assert(assert) => push_assert(alloc, out, assert),
     }
 }
 
-// The commands, their statements, matchers and patterns, or the position of the fault.
+// The whole tree as a short text, or the fault.
 fn outline(alloc: Global, text: &[u8]) -> Result<String, AllocError> {
     let mut out = String::new(alloc);
     match LinkerScript::parse(alloc, text) {
         Ok(script) => {
             for command in script.commands.as_slice() {
-                push_command(&mut out, command)?;
+                push_command(alloc, &mut out, command)?;
             }
             Ok(out)
         }
@@ -103,310 +127,177 @@ fn outline(alloc: Global, text: &[u8]) -> Result<String, AllocError> {
     }
 }
 
-#[test]
-fn outlines(rt: HostRuntime) -> Result<(), Fail> {
-    let cases: [(&[u8], &str); 22] = [
-        (b"", ""),
-        (b"/*/", ""),
-        (b" # a line\n/* and more */\t\r\n", ""),
-        (b"SECTIONS{}", "."),
-        (b"SECTIONS { } SECTIONS { }", ".."),
-        (b"\"SECTIONS\" { }", "."),
-        (
-            b"SECTIONS { .a : { *(.a .b) *(.c) } .d : { *(.d) } }",
-            ".a:(.a .b )(.c );.d:(.d );.",
-        ),
-        (b"SECTIONS{.a:{*(.a);*(.b)},.b:{\"*\"()}}", "syntax 12"),
-        (
-            b"SECTIONS{.a :{*(.a);*(.b)},.b :{\"*\"()}}",
-            ".a:(.a )(.b );.b:();.",
-        ),
-        (
-            b"SECTIONS { .a : { * /* x */ ( .a(b/ ) } }",
-            ".a:(.a(b/ );.",
-        ),
-        (b"SECTIONS { \"a b\" : { } }", "a b:;."),
-        (b"SECTIONS", "syntax 8"),
-        (b"# no newline", "syntax 1"),
-        (b"/* open", "unclosed 0"),
-        (b"SECTIONS { } /* open", "unclosed 13"),
-        (b"SECTIONS { .a : { } > r }", "syntax 20"),
-        (b"SECTIONS { .a : { } = 0 }", "syntax 20"),
-        (b"SECTIONS { .a : { } : h }", "syntax 20"),
-        (b"SECTIONS { \"\" : { } }", "syntax 14"),
-        (b"SECTIONS { ASSERT : { } }", "syntax 18"),
-        (b"SECTIONS { /DISCARD/ : { *(.a) } }", "/DISCARD/:(.a );."),
-        (b"SECTIONS { \"/DISCARD/\" : { } }", "/DISCARD/:;."),
-    ];
-    for (text, expected) in cases {
-        assert_eq!(rt; outline(rt.alloc(), text)?.as_str(), expected, "{text:?}");
+// The bytes of three parts.
+fn joined(alloc: Global, parts: [&[u8]; 3]) -> Result<Vec<u8>, AllocError> {
+    let mut script = Vec::new(alloc);
+    for part in parts {
+        for byte in part {
+            script.push(*byte)?;
+        }
+    }
+    Ok(script)
+}
+
+// Each text, by its name, has the outline, where it is put between the two others.
+fn expect(
+    rt: &impl Abort,
+    alloc: Global,
+    before: &[u8],
+    after: &[u8],
+    cases: &[(&str, &[u8], &str)],
+) -> Result<(), Fail> {
+    for (name, text, expected) in cases {
+        let script = joined(alloc, [before, text, after])?;
+        let found = outline(alloc, script.as_slice())?;
+        assert_eq!(rt; found.as_str(), *expected, "{name}");
     }
     Ok(())
 }
 
 #[test]
-fn matchers(rt: HostRuntime) -> Result<(), Fail> {
-    let cases: [(&[u8], &str); 23] = [
-        (b"SECTIONS { .a : { f.o(.a) } }", ".a:<f.o>(.a );."),
-        (
-            b"SECTIONS { .a : { *lib*.a (.a) ; \"a b\"(.b); } }",
-            ".a:<*lib*.a>(.a )<a b>(.b );.",
-        ),
-        (
-            b"SECTIONS { .a : { \"\"(.a) ** (.b) } }",
-            ".a:<>(.a )<**>(.b );.",
-        ),
-        (b"SECTIONS { .a : { f.o/**/(.a) } }", ".a:<f.o/**/>(.a );."),
-        (
-            b"SECTIONS { .a : { KEEP(*(.a .b)) KEEP (f.o /* x */ (.c) ) ; } }",
-            ".a:k(.a .b )k<f.o>(.c );.",
-        ),
-        (
-            b"SECTIONS { .a : { KEEP(\"*\"(.a)) *(.b) } }",
-            ".a:k(.a )(.b );.",
-        ),
-        (b"SECTIONS { .a : { KEEP(\"\"()) } }", ".a:k<>();."),
-        (b"SECTIONS { .a : { KEEP(KEEP(.a)) } }", ".a:k<KEEP>(.a );."),
-        (b"SECTIONS { .a : { \"KEEP\"(.a) } }", ".a:<KEEP>(.a );."),
-        (b"SECTIONS { .a : { KEEP( *(.a)) } }", "syntax 23"),
-        (b"SECTIONS { .a : { KEEP(/**/ *(.a)) } }", "syntax 28"),
-        (b"SECTIONS { .a : { KEEP(*) } }", "syntax 24"),
-        (b"SECTIONS { .a : { KEEP(*(.a) } }", "syntax 29"),
-        (b"SECTIONS { .a : { KEEP(*(.a);) } }", "syntax 28"),
-        (b"SECTIONS { .a : { KEEP } }", "syntax 23"),
-        (
-            b"SECTIONS { .a : { CONSTRUCTORS(.a) } }",
-            ".a:<CONSTRUCTORS>(.a );.",
-        ),
-        (b"SECTIONS { .a : { CONSTRUCTORS } }", "syntax 31"),
-        (
-            b"SECTIONS { .a : { \"PROVIDE\"(.a) \"ASSERT\"() } }",
-            ".a:<PROVIDE>(.a )<ASSERT>();.",
-        ),
-        (b"SECTIONS { .a : { PROVIDE(x = 1); } }", "syntax 25"),
-        (
-            b"SECTIONS { .a : { PROVIDE_HIDDEN (x = 1); } }",
-            "syntax 33",
-        ),
-        (b"SECTIONS { .a : { ASSERT(1, m) } }", "syntax 24"),
-        (b"SECTIONS { .a : { x = 1; } }", "syntax 20"),
-        (b"SECTIONS { .a : { BYTE(1) } }", ".a:<BYTE>(1 );."),
+fn scripts(rt: HostRuntime) -> Result<(), Fail> {
+    let cases: [(&str, &[u8], &str); 10] = [
+        ("no command", b" # a line\n/*/\t\r\n", ""),
+        ("sections twice", b"SECTIONS{}SECTIONS { }", "{}{}"),
+        ("a quoted word", b"\"SECTIONS\" { }", "{}"),
+        ("a word alone", b"SECTIONS", "syntax 8"),
+        ("a line without a newline", b"# no newline", "syntax 1"),
+        ("an open comment", b"SECTIONS { } /* open", "unclosed 13"),
+        ("a semicolon too many", b"x = 1;;", "syntax 6"),
+        ("no value", b"x =", "syntax 3"),
+        ("a word that is not built", b"GROUP = 5", "syntax 6"),
+        ("a name alone", b"a b", "syntax 2"),
     ];
-    for (text, expected) in cases {
-        assert_eq!(rt; outline(rt.alloc(), text)?.as_str(), expected, "{text:?}");
-    }
-    Ok(())
+    expect(&rt, rt.alloc(), b"", b"", &cases)
 }
 
 #[test]
-fn patterns(rt: HostRuntime) -> Result<(), Fail> {
-    let cases: [(&[u8], &str); 23] = [
+fn commands(rt: HostRuntime) -> Result<(), Fail> {
+    let cases: [(&str, &[u8], &str); 8] = [
+        ("no semicolons", b"x = 1 . = 2", "x=Number(1);=Number(2);"),
         (
-            b"SECTIONS { .a : { *(.t* [a-c]? \\*) } }",
-            ".a:(.t* [a-c]? \\* );.",
+            "semicolons",
+            b"x = 1; \".\" = 2 ;",
+            "x=Number(1);=Number(2);",
         ),
+        ("a provide", b"PROVIDE_HIDDEN ( x = 1 )", "-x=Number(1);"),
+        ("an operator in it", b"PROVIDE(x += 1);", "syntax 10"),
+        ("an equal in its token", b"PROVIDE(x=1)", "syntax 11"),
         (
-            b"SECTIONS { .a : { *(SORT(.t.*) .u) } }",
-            ".a:(.t.*^ .u );.",
+            "asserts",
+            b"ASSERT(1, m); ASSERT(2, n)",
+            "6?m=Number(1);20?n=Number(2);",
         ),
-        (
-            b"SECTIONS { .a : { *(SORT_BY_NAME(.a) SORT_BY_ALIGNMENT(.b) SORT(.c)) } }",
-            ".a:(.a^ .b .c^ );.",
-        ),
-        (
-            b"SECTIONS { .a : { *(SORT /* x */ ( .a /* y */ ) /**/ SORT(.b)SORT(.c).d) } }",
-            ".a:(.a^ .b^ .c^ .d );.",
-        ),
-        (b"SECTIONS { .a : { KEEP(*(SORT(.a))) } }", ".a:k(.a^ );."),
-        (b"SECTIONS { .a : { *(.aSORT(.b) } }", ".a:(.aSORT(.b );."),
-        (b"SECTIONS { .a : { *(sort(.b) } }", ".a:(sort(.b );."),
-        (
-            b"SECTIONS { .a : { *(SORT(sort(.b)) } }",
-            ".a:(sort(.b^ );.",
-        ),
-        (
-            b"SECTIONS { .a : { *(SORT( SORT(.b)) } }",
-            ".a:(SORT(.b^ );.",
-        ),
-        (b"SECTIONS { .a : { *(SORT( SORT)) } }", ".a:(SORT^ );."),
-        (
-            b"SECTIONS { .text : { *(SORT(SORT_BY_ALIGNMENT(.text.*))) } }",
-            "nested 28",
-        ),
-        (
-            b"SECTIONS { .a : { *(SORT_BY_NAME (SORTED)) } }",
-            "nested 34",
-        ),
-        (b"SECTIONS { .a : { *(.a) *(SORT(SORT /* open", "nested 31"),
-        (b"SECTIONS { .a : { *(SORTED) } }", "syntax 24"),
-        (b"SECTIONS { .a : { *(SORT) } }", "syntax 24"),
-        (b"SECTIONS { .a : { *(SORT_NONE(.a)) } }", "syntax 24"),
-        (b"SECTIONS { .a : { *(SORT_BY_NAMES(.a)) } }", "syntax 32"),
-        (
-            b"SECTIONS { .a : { *(SORT_BY_ALIGNMENT .a) } }",
-            "syntax 38",
-        ),
-        (b"SECTIONS { .a : { *(SORT()) } }", "syntax 25"),
-        (b"SECTIONS { .a : { *(SORT(.a .b)) } }", "syntax 28"),
-        (b"SECTIONS { .a : { *(SORT(.a", "syntax 27"),
-        (b"SECTIONS { .a : { *(SORT(/* open", "unclosed 25"),
-        (b"SECTIONS { .a : { *(.a\x0c) } }", "syntax 22"),
+        ("no message", b"ASSERT(1)", "syntax 8"),
+        ("a comment in open quotes", b"ASSERT(1, \"/*", "syntax 13"),
     ];
-    for (text, expected) in cases {
-        assert_eq!(rt; outline(rt.alloc(), text)?.as_str(), expected, "{text:?}");
-    }
-    Ok(())
+    expect(&rt, rt.alloc(), b"", b"", &cases)
+}
+
+#[test]
+fn changes(rt: HostRuntime) -> Result<(), Fail> {
+    let cases: [(&str, &[u8], &str); 2] = [
+        (
+            "a symbol",
+            b"x |= 7",
+            "x=BitwiseOr(Boxed { inner: Symbol(Name { bytes: [120] }) }, Boxed { inner: Number(7) });",
+        ),
+        (
+            "the location counter",
+            b". <<= 2 + 3",
+            "=LeftShift(Boxed { inner: LocationCounter }, Boxed { inner: Add(Boxed { inner: Number(2) }, Boxed { inner: Number(3) }) });",
+        ),
+    ];
+    expect(&rt, rt.alloc(), b"", b"", &cases)
 }
 
 #[test]
 fn statements(rt: HostRuntime) -> Result<(), Fail> {
-    let cases: [(&[u8], &str); 22] = [
-        (b"SECTIONS { . = 1 ; .a : { } . = 2 + . ; }", "=.a:;=."),
-        (b"SECTIONS { . = 1 /* c */; }", "syntax 18"),
-        (
-            b"SECTIONS { . += 1; . -= 2; . *= 3; . /= 4; . <<= 5; . >>= 6; . &= 7; . |= 8; . ^= 9; }",
-            "=========.",
-        ),
-        (b"SECTIONS { . == 1; }", "syntax 13"),
-        (b"SECTIONS { . =/ 1; }", "syntax 13"),
-        (b"SECTIONS { . < = 1; }", "syntax 13"),
-        (b"SECTIONS { . = 1 }", "syntax 17"),
-        (b"SECTIONS { x = 1; y += 2; \".\" = 3; }", "$x;$y;=."),
-        (b"SECTIONS { \"\" = 1; }", "$;."),
-        (b"SECTIONS { GROUP = 1; }", "$GROUP;."),
-        (b"SECTIONS { x = 1 }", "syntax 17"),
-        (b"SECTIONS { x 1; }", "syntax 13"),
-        (b"SECTIONS { PROVIDE(x = 1); }", "+x;."),
-        (
-            b"SECTIONS { PROVIDE ( x = 1 ) \"PROVIDE_HIDDEN\"(y = 2); }",
-            "+x;-y;.",
-        ),
-        (b"SECTIONS { PROVIDE(\"\" = 1) ; .a : { } }", "+;.a:;."),
-        (b"SECTIONS { PROVIDE = 1; }", "syntax 19"),
-        (b"SECTIONS { PROVIDE(x 1); }", "syntax 21"),
-        (b"SECTIONS { ASSERT(1, m) }", "!m;."),
-        (b"SECTIONS { \"ASSERT\" ( 1 , \"a b\" ) . = 1; }", "!a b;=."),
-        (b"SECTIONS { ASSERT(1, m); }", "syntax 23"),
-        (b"SECTIONS { ASSERT = 1; }", "syntax 18"),
-        (b"SECTIONS { PROVIDE_HIDDEN : { } }", "syntax 26"),
+    let cases: [(&str, &[u8], &str); 13] = [
+        ("assignments", b". = 1; x = 2;", "{=Number(1);x=Number(2);}"),
+        ("no semicolon", b". = 1 ", "syntax 15"),
+        ("a comment before it", b". = 1 /* c */;", "syntax 16"),
+        ("two equals", b". == 1;", "syntax 11"),
+        ("a blank in an operator", b". < = 1;", "syntax 11"),
+        ("a command's word", b"GROUP = 1;", "{GROUP=Number(1);}"),
+        ("a provide", b"PROVIDE ( x = 1 )", "{+x=Number(1);}"),
+        ("an assert", b"ASSERT (1, \"a b\")", "{16?a b=Number(1);}"),
+        ("a semicolon after it", b"ASSERT(1, m);", "syntax 21"),
+        ("a word is no name", b"PROVIDE_HIDDEN : { }", "syntax 24"),
+        ("a region", b".a : { } > r ", "syntax 18"),
+        ("a section without a name", b"\"\" : { }", "syntax 12"),
+        ("a colon in a token", b".a: { }", "syntax 13"),
     ];
-    for (text, expected) in cases {
-        assert_eq!(rt; outline(rt.alloc(), text)?.as_str(), expected, "{text:?}");
-    }
-    Ok(())
+    expect(&rt, rt.alloc(), b"SECTIONS{", b"}", &cases)
 }
 
 #[test]
-fn outermost_commands(rt: HostRuntime) -> Result<(), Fail> {
-    let cases: [(&[u8], &str); 24] = [
-        (b"x = 1;", "$x;"),
-        (b"x = 1", "$x;"),
-        (b"x = 1 y = 2", "$x;$y;"),
-        (b"x += 1 ; SECTIONS { } y -= 2", "$x;.$y;"),
-        (b". = 5", "="),
-        (b"\".\" = 5;", "="),
-        (b"\"\" = 1;", "$;"),
-        (b"x = 1;;", "syntax 6"),
-        (b"x =", "syntax 3"),
-        (b"PROVIDE(x = 1);", "+x;"),
-        (b"PROVIDE_HIDDEN ( x = 1 )", "-x;"),
-        (b"\"PROVIDE\"(\"x y\" = 1) x = 2", "+x y;$x;"),
-        (b"PROVIDE(x += 1);", "syntax 10"),
-        (b"PROVIDE(x = 1;", "syntax 13"),
-        (b"ASSERT(1, \"m\")", "!m;"),
-        (b"ASSERT(1, m); ASSERT(2, n)", "!m;!n;"),
-        (b"ASSERT(1)", "syntax 8"),
-        (b"GROUP = 5", "syntax 6"),
-        (b"\"ENTRY\" = 5", "syntax 8"),
-        (b"MEMORY { }", "syntax 7"),
-        (b"SECTIONS = 5", "syntax 9"),
-        (b"a", "syntax 1"),
-        (b"a b", "syntax 2"),
-        (b"x == 1", "syntax 2"),
+fn matchers(rt: HostRuntime) -> Result<(), Fail> {
+    let cases: [(&str, &[u8], &str); 12] = [
+        ("every file", b"*(.a .b);\"*\"()", "{.a:(.a .b )();}"),
+        (
+            "files",
+            b"f.o/**/(.a) \"a b\"(.b)",
+            "{.a:<f.o/**/>(.a )<a b>(.b );}",
+        ),
+        ("an empty file", b"\"\"()", "{.a:<>();}"),
+        ("kept", b"KEEP (f.o /* x */ (.c) ) ;", "{.a:!<f.o>(.c );}"),
+        ("a quoted word", b"\"KEEP\"(.a)", "{.a:<KEEP>(.a );}"),
+        ("a gap in KEEP", b"KEEP( *(.a))", "syntax 19"),
+        ("KEEP without patterns", b"KEEP(*)", "syntax 20"),
+        ("what is not built", b"PROVIDE(x = 1);", "syntax 21"),
+        ("no patterns", b"CONSTRUCTORS", "syntax 26"),
+        ("a comment in a name", b"*(.a/* (b)", "{.a:(.a/* (b );}"),
+        ("form feed", b"*(.a\x0c)", "syntax 18"),
+        ("sorted", b"*(SORT(.t*) .u)", "{.a:(^.t* .u );}"),
     ];
-    for (text, expected) in cases {
-        assert_eq!(rt; outline(rt.alloc(), text)?.as_str(), expected, "{text:?}");
-    }
-    Ok(())
-}
-
-// The first command of a script, or the first statement of its SECTIONS, as its derived text.
-fn first_command(alloc: Global, text: &[u8]) -> Result<String, AllocError> {
-    let Ok(script) = LinkerScript::parse(alloc, text) else {
-        return String::from_str(alloc, "none");
-    };
-    match script.commands.as_slice().first() {
-        Some(Command::Sections(sections)) => {
-            let first = sections.commands.as_slice().first();
-            format!(in alloc; "{first:?}")
-        }
-        first => format!(in alloc; "{first:?}"),
-    }
+    expect(&rt, rt.alloc(), b"SECTIONS{.a :{", b"}}", &cases)
 }
 
 #[test]
-fn values(rt: HostRuntime) -> Result<(), Fail> {
-    let cases: [(&[u8], &str); 8] = [
+fn sort_words(rt: HostRuntime) -> Result<(), Fail> {
+    let cases: [(&str, &[u8], &str); 10] = [
         (
-            b"SECTIONS { . = 4K; }",
-            "Some(SetLocation(Location { address: Number(4096) }))",
+            "gaps",
+            b"*(SORT /* x */ ( .a /* y */ ).b)",
+            "{.a:(^.a .b );}",
         ),
+        ("by name", b"*(SORT_BY_NAME(.b))", "{.a:(^.b );}"),
+        ("by alignment", b"*(SORT_BY_ALIGNMENT(.v))", "{.a:(.v );}"),
+        ("in a name", b"*(.aSORT(.b)", "{.a:(.aSORT(.b );}"),
         (
-            b"SECTIONS { . <<= 2 + 3; }",
-            "Some(SetLocation(Location { address: LeftShift(Boxed { inner: LocationCounter }, Boxed { inner: Add(Boxed { inner: Number(2) }, Boxed { inner: Number(3) }) }) }))",
+            "a gap between two",
+            b"*(SORT( SORT(.b))",
+            "{.a:(^SORT(.b );}",
         ),
-        (
-            b"SECTIONS { x |= 7; }",
-            "Some(SymbolAssignment(SymbolAssignment { name: Name { bytes: [120] }, expr: BitwiseOr(Boxed { inner: Symbol(Name { bytes: [120] }) }, Boxed { inner: Number(7) }) }))",
-        ),
-        (
-            b"x = 7",
-            "Some(SymbolDefinition { name: Name { bytes: [120] }, value: Number(7) })",
-        ),
-        (
-            b". -= 7",
-            "Some(SetLocation(Location { address: Subtract(Boxed { inner: LocationCounter }, Boxed { inner: Number(7) }) }))",
-        ),
-        (
-            b"PROVIDE(x = 7)",
-            "Some(Provide(ProvideSymbolDefinition { name: Name { bytes: [120] }, value: Number(7), hidden: false }))",
-        ),
-        (
-            b"ASSERT(7, m)",
-            "Some(Assert(AssertCommand { expression: Boxed { inner: Number(7) }, message: Name { bytes: [109] }, at: 6 }))",
-        ),
-        (b"SECTIONS { }", "None"),
+        ("one in another", b"*(SORT(SORT_BY_NAME(.a)))", "nested 21"),
+        ("a word that begins so", b"*(SORTED)", "syntax 20"),
+        ("no name", b"*(SORT())", "syntax 21"),
+        ("two names", b"*(SORT(.a .b))", "syntax 24"),
+        ("an open comment", b"*(SORT(/* open", "unclosed 21"),
     ];
-    for (text, expected) in cases {
-        assert_eq!(rt; first_command(rt.alloc(), text)?.as_str(), expected);
-    }
-    Ok(())
-}
-
-fn skipped(text: &[u8], position: usize) -> Option<Result<usize, Fault>> {
-    if position <= text.len() {
-        Some(skip_comments_and_whitespace(text, position))
-    } else {
-        None
-    }
+    expect(&rt, rt.alloc(), b"SECTIONS{.a :{", b"}}", &cases)
 }
 
 #[test]
 fn gaps(rt: HostRuntime) -> Result<(), Fail> {
-    let cases: [(&[u8], usize, Result<usize, Fault>); 6] = [
-        (b"", 0, Ok(0)),
-        (b" \t# line\n /* c */ x", 0, Ok(18)),
-        (b"/*/x", 0, Ok(3)),
-        (b"x # line", 1, Err(Fault::Syntax { position: 3 })),
+    let cases: [(&str, &[u8], Result<usize, Fault>); 5] = [
+        ("no bytes", b"", Ok(0)),
+        ("all kinds", b" \t# line\n /* c */ x", Ok(18)),
+        ("the star that opens", b"/*/x", Ok(3)),
         (
-            b"x # l\n /* c",
-            1,
-            Err(Fault::UnclosedComment { position: 7 }),
+            "an open line",
+            b" # line",
+            Err(Fault::Syntax { position: 2 }),
         ),
-        (b"x", 1, Ok(1)),
+        (
+            "an open comment",
+            b"# l\n /* c",
+            Err(Fault::UnclosedComment { position: 5 }),
+        ),
     ];
-    for (text, position, expected) in cases {
-        assert_eq!(rt; skipped(text, position), Some(expected), "{text:?}");
+    for (name, text, expected) in cases {
+        assert_eq!(rt; skip_comments_and_whitespace(text, 0), expected, "{name}");
     }
     Ok(())
 }

@@ -22,7 +22,7 @@ pub enum Command {
     Assert(AssertCommand),
 }
 
-/// What stands in SECTIONS.
+/// What is in SECTIONS.
 #[derive(Debug, Drop)]
 pub struct Sections {
     pub commands: Items<SectionCommand>,
@@ -89,6 +89,6 @@ pub struct Matcher {
 #[derive(Debug, Drop)]
 pub struct SectionPattern {
     pub name: Name,
-    /// Its sections stand by their names.
+    /// Its sections are in the order of their names.
     pub sorted: bool,
 }

@@ -1,12 +1,9 @@
 //! Words that statements begin with.
 
 ghost use Rattle.std.specs.Prelude.{◌≡◌};
-ghost use Rattle.std.specs.Str.{bytes_eq};
-ghost use Rattle.wild_reading.specs.Only.{Answers};
-ghost use Rattle.wild_reading.specs.Reader.{Nothing};
 ghost use Rattle.wild_script.specs.Words as spec;
 
-use wild_reading::{Cursor, Stop, Token};
+use wild_reading::{Token, is_word};
 
 /// What an outermost command begins with.
 #[derive(Clone, Copy, Debug, PartialEq, Eq)]
@@ -41,12 +38,6 @@ pub enum ContentsWord {
     ProvideHidden,
     Assert,
     Keep,
-}
-
-fn is_word(content: &[u8], word: &[u8]) -> bool
-    ensures { result ≡ bytes_eq content.now word.now }
-{
-    content == word
 }
 
 /// The word of an outermost command that these bytes are.
@@ -99,7 +90,7 @@ pub fn statement_word(content: &[u8]) -> Option<StatementWord>
     }
 }
 
-/// The word of a statement in a section that a token is, which never stands in quotes.
+/// The word of a statement in a section that a token is, which is never in quotes.
 pub fn contents_word(token: &Token<'_>) -> Option<ContentsWord>
     ensures { result ≡ spec.contents_word token.now }
 {
@@ -116,14 +107,4 @@ pub fn contents_word(token: &Token<'_>) -> Option<ContentsWord>
     } else {
         None
     }
-}
-
-/// Reads nothing: a statement that is not built yet.
-#[tactic(auto, using(wild_reading::proofs::Readers::choosing))]
-pub fn nothing<T>(cursor: &Cursor<'_>) -> Result<T, Stop>
-    ensures { Answers Nothing cursor.now cursor.now result }
-{
-    Err(Stop::Syntax {
-        position: cursor.position(),
-    })
 }

@@ -1,4 +1,4 @@
--- What is known of a layout: a finite map from entries to numbers.
+-- What is known of a layout: a finite map from what may be asked to numbers.
 use Rattle.std.specs.Option.{unwrap_or}
 use Rattle.std.specs.Prelude.{◌≡◌, ℕ, ◌==◌, Bool, false, Option, Some, None, if◌then◌else◌}
 
@@ -10,9 +10,11 @@ pub data Asked : Type 0 where
   Address : ℕ → Asked
   Dot : ℕ → Asked
 
+-- the number of each, where it is known
 abbrev pub Known : Type 0
 Known = Asked → Option ℕ
 
+-- nothing is known
 abbrev pub nothing : Known
 nothing x = None
 
@@ -24,6 +26,7 @@ number_at known x = unwrap_or (known x) 0
 abbrev pub IsPart : Known → Known → Type 0
 IsPart some more = (x : Asked) (n : ℕ) → some x ≡ Some n → more x ≡ Some n
 
+-- whether two ask for the same
 abbrev pub same_asked : Asked → Asked → Bool
 same_asked (Start a) (Start b) = a == b
 same_asked (Load a) (Load b) = a == b
@@ -37,6 +40,6 @@ abbrev pub or_else : Option ℕ → Option ℕ → Option ℕ
 or_else (Some n) o = Some n
 or_else None o = o
 
--- one more entry, where none is known yet
+-- one more number, where none is known yet
 unfoldable pub with_number : Asked → ℕ → Known → Known
 with_number x n known = λ y. or_else (known y) (if same_asked x y then Some n else None)

@@ -2,6 +2,10 @@
 use Rattle.std.specs.Prelude.{ℕ, ◌+◌, max, true, false, ◌||◌}
 use Rattle.wild_value_spec.specs.declared.value.Value.{Value}
 
+-- the greatest height: work begins with so many levels
+abbrev pub max_height : ℕ
+max_height = 1024
+
 -- a number that is no node
 abbrev pub bare : ℕ → Value
 bare n = record { number = n; relative = false; absolute = false; height = 0 }

@@ -34,6 +34,7 @@ quotient x y = cast_unsigned w64 (int_div (cast_signed w64 x) (cast_signed w64 y
 unfoldable pub remainder : ℕ → ℕ → ℕ
 remainder x y = cast_unsigned w64 (int_rem (cast_signed w64 x) (cast_signed w64 y))
 
+-- the quotient or the remainder
 abbrev pub divided_by : Division → ℕ → ℕ → ℕ
 divided_by Divide x y = quotient x y
 divided_by Modulo x y = remainder x y
@@ -69,6 +70,7 @@ negation x = (2 ^ 64 - x) % 2 ^ 64
 abbrev pub complement : ℕ → ℕ
 complement x = 2 ^ 64 - 1 - x
 
+-- `!`, `~` and `-`
 unfoldable pub unary_result : Unary → ℕ → ℕ
 unary_result LogicalNot x = truth (not (is_true x))
 unary_result BitwiseNot x = complement x

@@ -1,14 +1,15 @@
--- What an expression is read by, beside what is known of the layout.
+-- What a script and its table say to an expression, beside what is known of the layout.
 use Rattle.std.specs.Prelude.{ℕ, ◌+◌, ◌==◌, List, Option, count_by, take}
 use Rattle.wild_expression_tree.specs.declared.tree.Expression.{Expression}
 use Rattle.wild_value_spec.specs.declared.value.Point.{Point}
 
+-- a name, by its bytes
 abbrev pub Name : Type 0
 Name = List ℕ
 
 -- what a symbol is
 pub data Definition : Type 0 where
-  -- so many bytes behind the start of a row, which stands in a section
+  -- so many bytes after the start of a row of a section: the row, the bytes and the section
   OfRow : ℕ → ℕ → ℕ → Definition
   -- an expression at a point
   OfScript : Expression → Point → Definition

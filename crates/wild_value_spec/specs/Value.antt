@@ -21,7 +21,7 @@ use Rattle.wild_value_spec.specs.declared.value.Point.{Point}
 use Rattle.wild_value_spec.specs.declared.value.Value.{Value}
 use Rattle.wild_value_spec.specs.Answer.{◌>>=◌, or_fault}
 use Rattle.wild_value_spec.specs.Known.{Known, Start, Load, End, Address, Dot}
-use Rattle.wild_value_spec.specs.Marks.{bare, unmarked, absolutely, relatively, absolutely_over, relatively_over, over, over_both, unmarked_over}
+use Rattle.wild_value_spec.specs.Marks.{max_height, bare, unmarked, absolutely, relatively, absolutely_over, relatively_over, over, over_both, unmarked_over}
 use Rattle.wild_value_spec.specs.Numbers.{arithmetic_result, divided_by, holds, decides, unary_result, truth, is_true}
 use Rattle.wild_value_spec.specs.Scope.{Name, Definition, OfRow, OfScript, Scope}
 
@@ -58,7 +58,7 @@ multiple_value align x = multiple_from x.number align.number >>= (λ n. Ok (over
 module _ (scope : Scope) (statement : ℕ) (known : Known) where
   -- ---- what is known
 
-  -- the location counter of a place
+  -- the location counter at a place
   unfoldable pub dot_of : ℕ → Result ℕ Fault
   dot_of place = or_fault (known (Dot place)) (NotLaidOut statement (codes "."))
 
@@ -84,12 +84,13 @@ module _ (scope : Scope) (statement : ℕ) (known : Known) where
   full_number_in (Some s) x =
       if x.relative || not x.absolute then start_of s >>= (λ start. sum_of x.number start) else Ok x.number
 
+  -- the number that a value stands for at a point
   unfoldable pub full_number : Point → Value → Result ℕ Fault
   full_number p x = full_number_in p.«section» x
 
   -- ---- steps
 
-  -- a comparison, of which the left side is known with its full value
+  -- the right side of a comparison, and then the answer, over the full value of the left side
   unfoldable pub judgement : Comparison → Point → ℕ → Value → Value → Result Value Fault
   judgement o p left x y = full_number p y >>= (λ right. Ok (unmarked_over (truth (holds o left right)) x y))
 
@@ -116,6 +117,7 @@ module _ (scope : Scope) (statement : ℕ) (known : Known) where
   size_in None = Ok (unmarked 0)
   size_in (Some s) = extent s
 
+  -- SIZEOF
   unfoldable pub size : Name → Result Value Fault
   size name = size_in (scope.«section» name)
 
@@ -124,6 +126,7 @@ module _ (scope : Scope) (statement : ℕ) (known : Known) where
   alignment_in None = unmarked 0
   alignment_in (Some s) = unmarked (2 ^ scope.alignment s)
 
+  -- ALIGNOF
   unfoldable pub alignment : Name → Value
   alignment name = alignment_in (scope.«section» name)
 
@@ -132,6 +135,7 @@ module _ (scope : Scope) (statement : ℕ) (known : Known) where
   address_in of name None = Err (UnknownSection name)
   address_in of name (Some s) = of s >>= (λ n. Ok (absolutely n))
 
+  -- ADDR and LOADADDR
   unfoldable pub start_named : Name → Result Value Fault
   start_named name = address_in start_of name (scope.«section» name)
 
@@ -170,13 +174,14 @@ module _ (scope : Scope) (statement : ℕ) (known : Known) where
   unfoldable pub symbol_value : Name → Option ℕ → Point → ℕ → ℕ → Result Value Fault
   symbol_value name of p address height = symbol_value_in name address height of p.«section»
 
-  -- a symbol of the table: so far behind the start of its row
+  -- a symbol of the table: so far after the start of its row
   unfoldable pub table_symbol : Name → ℕ → ℕ → ℕ → Point → Result Value Fault
   table_symbol name row offset s p =
       row_of name row >>= (λ start. sum_of start offset >>= (λ address. symbol_value name (Some s) p address 0))
 
   -- ---- the kinds of nodes, over their parts, whose values `eval` gives on a path
   module _ (eval : List Name → Expression → Point → Result Value Fault) (path : List Name) where
+    -- the value of a part
     abbrev pub part : Expression → Point → Result Value Fault
     part = eval path
 
@@ -227,6 +232,7 @@ module _ (scope : Scope) (statement : ℕ) (known : Known) where
     script_symbol name e q p =
         eval (name ∷ path) e q >>= (λ x. full_number q x >>= (λ address. symbol_value name q.«section» p address x.height))
 
+    -- a symbol by its definition
     abbrev pub symbol_by : Name → Definition → Point → Result Value Fault
     symbol_by name (OfRow row offset s) p = table_symbol name row offset s p
     symbol_by name (OfScript e q) p = script_symbol name e q p
@@ -236,6 +242,7 @@ module _ (scope : Scope) (statement : ℕ) (known : Known) where
     symbol_in name None p = Err (UnknownSymbol name)
     symbol_in name (Some d) p = if is_on name path then Err (SymbolCycle name) else symbol_by name d p
 
+    -- a symbol by its name
     unfoldable pub symbol : Name → Point → Result Value Fault
     symbol name p = symbol_in name (scope.definition name) p
 
@@ -244,6 +251,7 @@ module _ (scope : Scope) (statement : ℕ) (known : Known) where
     assert_value c message at p =
         part c p >>= (λ x. if x.number == 0 then Err (AssertFailed (scope.line at) message) else Ok (over x.number x))
 
+    -- a node of any kind
     abbrev pub node : Point → Shape Expression → Result Value Fault
     node p (Number n) = Ok (unmarked n)
     node p LocationCounter = counter p
@@ -269,6 +277,10 @@ module _ (scope : Scope) (statement : ℕ) (known : Known) where
   unfoldable pub full : ℕ → List Name → Expression → Point → Result ℕ Fault
   full h path e p = value h path e p >>= full_number p
 
+  -- the same where work begins with it: all levels are left
+  abbrev pub full_value : List Name → Expression → Point → Result ℕ Fault
+  full_value path e p = full max_height path e p
+
   -- what an ASSERT statement is worth: it is a node over its condition, so that one level is taken
   unfoldable pub assert_statement : AssertCommand → Point → Result Value Fault
-  assert_statement command p = assert_value (value 1023) [] command.expression command.message command.at p
+  assert_statement command p = assert_value (value (max_height - 1)) [] command.expression command.message command.at p

@@ -2,8 +2,8 @@ use Rattle.std.proofs.Common.{rules, arith, refl}
 use Rattle.wild_reading.proofs.Readers.{answers_ok, answers_err, bind_only, bind_answers, deeper_only, deeper_refuses, full_refuses, give_only, give_by}
 use Rattle.wild_reading.proofs.Families.{fold_step, fold_only, fold_refuses}
 use Rattle.wild_reading.proofs.Marks.{paid_on}
-use Rattle.wild_expression.specs.Grammar.{brackets, brackets_of, pair, pair_of, align_value, align_value_of, align_rest, align, align_of, segment_start, segment_start_of, assert, assert_of, signed, signed_of, alternatives, alternatives_of, chain, layer, step, step_of}
-use Rattle.wild_expression.proofs.Local.{layer_answers, sign_answers, chain_answers, ternary_answers, comparison_answers, alone_answers, whole_answers}
+use Rattle.wild_expression.specs.Grammar.{brackets, brackets_of, pair, pair_of, align_value, align_value_of, align_rest, align, align_of, segment_start, segment_start_of, assert, assert_of, unary, unary_of, alternatives, alternatives_of, chain, layer, step, step_of}
+use Rattle.wild_expression.proofs.Layers.{layer_answers, sign_answers, chain_answers, ternary_answers, comparison_answers, alone_answers, whole_answers}
 use Rattle.wild_expression.proofs.Depths.{value_inner}
 use Rattle.wild_expression.proofs.Weights.{enclosed_paid, room_there, operator_covers, byte_covers, paid_less, max_paid, covered_by, covered_as}
 use Rattle.wild_expression.proofs.levels.+levels.Goals as goal
@@ -66,12 +66,12 @@ align-returns-clause-read t c = bind_answers c.in_ok-byte.ensures.read.ok (bind_
 
 pub segment_start-inner_value-requires : goal.segment_start-inner_value-requires
 segment_start-inner_value-requires t c =
-    (search rules, paid_on c.in_ok-byte-2.ensures.read.ok (paid_on c.in_ok-white-2.ensures.ok (paid_on c.in_ok-word.ensures.ok (paid_on c.in_ok-white.ensures.ok (c.in_ok-byte.ensures.marked refl)))))
+    (search rules, paid_on c.in_ok-byte-2.ensures.read.ok (paid_on c.in_ok-white-2.ensures.ok (paid_on c.in_ok-word.ensures.read.ok (paid_on c.in_ok-white.ensures.ok (c.in_ok-byte.ensures.marked refl)))))
 
 pub segment_start-returns-clause-read : goal.segment_start-returns-clause-read
 unfolding segment_start segment_start_of
 segment_start-returns-clause-read t c =
-    answers_ok (bind_only c.in_ok-byte.ensures.read.ok (bind_only c.in_ok-white.ensures.ok (bind_only c.in_ok-word.ensures.ok (bind_only c.in_ok-white-2.ensures.ok
+    answers_ok (bind_only c.in_ok-byte.ensures.read.ok (bind_only c.in_ok-white.ensures.ok (bind_only c.in_ok-word.ensures.read.ok (bind_only c.in_ok-white-2.ensures.ok
     (bind_only c.in_ok-byte-2.ensures.read.ok (bind_only c.in_ok-x.ensures.read.ok (bind_only c.in_ok-close.ensures.ok (give_by (rw c.content.ensures at c.in_ok-started.ensures)))))))))
 
 pub segment_start-returns-clause-paid : goal.segment_start-returns-clause-paid
@@ -89,9 +89,9 @@ assertion-returns-clause-paid t c =
 
 -- ---- signs and operators
 
-pub signed-returns-clause-read : goal.signed-returns-clause-read
-unfolding signed signed_of
-signed-returns-clause-read t c = answers_ok (bind_only c.in_ok-before.ensures.read.ok (bind_only c.in_ok-x.ensures.read.ok (give_by c.in_ok-signed.ensures)))
+pub unary-returns-clause-read : goal.unary-returns-clause-read
+unfolding unary unary_of
+unary-returns-clause-read t c = answers_ok (bind_only c.in_ok-before.ensures.read.ok (bind_only c.in_ok-x.ensures.read.ok (give_by c.in_ok-unary.ensures)))
 
 pub step-room-requires : goal.step-room-requires
 step-room-requires t c = paid_less (omega arith) (operator_covers c.args.level c.in_ok-operator.ensures.read.ok c.requires c.in_ok-operator.ensures.marked)
@@ -163,5 +163,5 @@ value-returns-in-Sign-clause-read t c = sign_answers c.in-Sign.is c.sign_level.e
 pub value-returns-in-Ternary-clause-read : goal.value-returns-in-Ternary-clause-read
 value-returns-in-Ternary-clause-read t c = layer_answers c.args.level (search rules) c.layer.ensures.read
 
-pub behind-returns-in-Whole-clause-read : goal.behind-returns-in-Whole-clause-read
-behind-returns-in-Whole-clause-read t c = whole_answers c.in-Whole.is
+pub after_head-returns-in-Whole-clause-read : goal.after_head-returns-in-Whole-clause-read
+after_head-returns-in-Whole-clause-read t c = whole_answers c.in-Whole.is

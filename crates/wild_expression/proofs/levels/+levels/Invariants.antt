@@ -4,7 +4,7 @@ use Rattle.wild_reading.specs.Position.{ahead}
 use Rattle.wild_reading.proofs.Families.{GoesOn}
 use Rattle.wild_expression_words.specs.Operators.{ends}
 use Rattle.wild_expression.specs.Grammar.{step, IsCovered}
-use Rattle.wild_expression.proofs.Local.{rank}
+use Rattle.wild_expression.proofs.Layers.{rank}
 use Rattle.wild_expression.proofs.levels.+levels.Given as goal
 
 abbrev pub decreases-enclosed : goal.decreases-enclosed
@@ -37,17 +37,17 @@ decreases-assertion l = 64 * l.cursor.now.left + 2
 abbrev pub decreases-arguments : goal.decreases-arguments
 decreases-arguments l = 64 * l.cursor.now.left + 5
 
-abbrev pub decreases-behind : goal.decreases-behind
-decreases-behind l = 64 * l.cursor.now.left + 6
+abbrev pub decreases-after_head : goal.decreases-after_head
+decreases-after_head l = 64 * l.cursor.now.left + 6
 
 abbrev pub decreases-primary : goal.decreases-primary
 decreases-primary l = 64 * l.cursor.now.left + 7
 
-abbrev pub decreases-signed : goal.decreases-signed
-decreases-signed l = 64 * l.cursor.now.left + 2
+abbrev pub decreases-unary : goal.decreases-unary
+decreases-unary l = 64 * l.cursor.now.left + 2
 
-abbrev pub decreases-signed_or_primary : goal.decreases-signed_or_primary
-decreases-signed_or_primary l = 64 * l.cursor.now.left + 8
+abbrev pub decreases-unary_or_primary : goal.decreases-unary_or_primary
+decreases-unary_or_primary l = 64 * l.cursor.now.left + 8
 
 abbrev pub decreases-sign_level : goal.decreases-sign_level
 decreases-sign_level l = 64 * l.cursor.now.left + 9
