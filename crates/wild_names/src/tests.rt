@@ -118,3 +118,18 @@ fn output_formats(rt: HostRuntime) {
         );
     }
 }
+
+#[test]
+fn letters_of_flags(rt: HostRuntime) {
+    for (letter, flag) in [
+        (b'A', Some(InputFlags::ALLOC)),
+        (b'W', Some(InputFlags::WRITE)),
+        (b'X', Some(InputFlags::EXEC)),
+        (b'B', Some(InputFlags::NOBITS)),
+        (b'T', Some(InputFlags::TLS)),
+        (b'E', Some(InputFlags::EXCLUDE)),
+        (b'N', None),
+    ] {
+        assert_eq!(rt; InputFlags::of_letter(letter), flag, "{letter}");
+    }
+}

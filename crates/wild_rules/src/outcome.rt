@@ -32,9 +32,8 @@ impl SectionOutputInfo {
         ensures { result ≡ spec.keep id }
     {
         SectionOutputInfo {
-            section_id: id,
             must_keep: true,
-            sorted: false,
+            ..SectionOutputInfo::regular(id)
         }
     }
 }
