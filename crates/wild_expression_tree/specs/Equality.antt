@@ -74,10 +74,12 @@ abbrev pub unplaced : {X : Type 0} → Shape X → Shape X
 unplaced (Assert x message at) = Assert x message 0
 unplaced s = s
 
+-- the outline that is held, if there is one
 abbrev pub held_outline : Option Outline → Outline
 held_outline None = absent
 held_outline (Some x) = x
 
+-- the first, the second and the third part of a node
 abbrev pub first_of : Shape Outline → Outline
 first_of (Shape.Arithmetic o x y) = x
 first_of (Shape.Division o x y) = x
@@ -90,6 +92,7 @@ first_of (SegmentStart s x) = x
 first_of (Assert x message at) = x
 first_of s = absent
 
+-- `absent` where it has no second one
 abbrev pub second_of : Shape Outline → Outline
 second_of (Shape.Arithmetic o x y) = y
 second_of (Shape.Division o x y) = y
@@ -99,16 +102,20 @@ second_of (Ternary x y z) = y
 second_of (Align x y) = held_outline y
 second_of s = absent
 
+-- the same of a third one
 abbrev pub third_of : Shape Outline → Outline
 third_of (Ternary x y z) = z
 third_of s = absent
 
+-- a node over the outlines of its parts
 abbrev pub outlined : Shape Outline → Outline
 outlined s = node (map_shape (λ x. tt) (unplaced s)) (first_of s) (second_of s) (third_of s)
 
+-- the whole expression
 abbrev pub outline : Expression → Outline
 outline = fold outlined
 
+-- an operand that may be missing
 abbrev pub operand : Option Expression → Outline
 operand None = absent
 operand (Some x) = outline x
@@ -129,6 +136,7 @@ outline_eq s t = false
 abbrev pub same : Expression → Expression → Bool
 same x y = outline_eq (outline x) (outline y)
 
+-- the same of two asserts: their expressions and their messages
 abbrev pub same_assert : AssertCommand → AssertCommand → Bool
 same_assert = eq_of_both (on (λ a. a.expression) same) (on (λ a. a.message) (pointwise nat_eq))
 

@@ -22,6 +22,7 @@ use Rattle.wild_expression_tree.specs.declared.tree.Expression.{Expression, out-
 use Rattle.wild_expression_tree.specs.declared.tree.Expression.TheOpen.{Expression-F}
 use Rattle.wild_expression_tree.specs.declared.tree.Expression.TheFolds.{fold-Expression}
 
+-- a name, by its bytes
 abbrev pub Name : Type 0
 Name = List ℕ
 

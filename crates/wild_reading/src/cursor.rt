@@ -1,6 +1,6 @@
 //! A cursor over bytes.
 
-ghost use Rattle.std.specs.Prelude.{◌≡◌, ◌≤◌, ◌<◌, ◌+◌, ◌^◌, length, true, OnOk, IfOk};
+ghost use Rattle.std.specs.Prelude.{◌≡◌, ◌≤◌, ◌<◌, ◌+◌, ◌^◌, length, true, OnOk};
 ghost use Rattle.wild_reading.specs.Position.{ahead, is_mark, IsPaid, IsMarked};
 ghost use Rattle.wild_reading.specs.Bytes as spec;
 ghost use Rattle.wild_reading.specs.Lex as lexis;

@@ -1,5 +1,5 @@
 -- How rules are made, and why there is none.
-use Rattle.std.specs.Prelude.{◌≢◌, ℕ, true, false, ◌||◌, ◌==◌, if◌then◌else◌, List, [], ◌∷◌, length, Option, Some, None, Result, Ok, Err}
+use Rattle.std.specs.Prelude.{◌≢◌, ℕ, true, false, ◌||◌, ◌==◌, if◌then◌else◌, List, [], length, Option, Some, None, Result, Ok, Err}
 use Rattle.wild_glob.specs.declared.piece.Piece.{Piece}
 use Rattle.wild_glob.specs.declared.escape.GlobPatternType.{GlobPatternType}
 use Rattle.wild_glob.specs.declared.escape.GlobPatternType.TheVariants as kind

@@ -1,6 +1,5 @@
 -- Assignments: an operator and an expression.
-use Rattle.std.specs.Prelude.{ℕ, ◌+◌, Bool, false, not, ◌||◌, ◌&&◌, if◌then◌else◌, List, Option, Some, None, codes}
-use Rattle.std.specs.Str.{bytes_eq}
+use Rattle.std.specs.Prelude.{ℕ, ◌+◌, Bool, false, not, ◌||◌, ◌&&◌, if◌then◌else◌, List, Option, Some, None}
 use Rattle.wild_reading.specs.Position.{Bytes}
 use Rattle.wild_reading.specs.Bytes.{begins}
 use Rattle.wild_reading.specs.Reader.{Reader, ◌>>=◌, ◌>>◌, Give, Takes, Choice}
