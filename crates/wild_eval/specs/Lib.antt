@@ -1,4 +1,3 @@
-pub mod Const
 pub mod Plain
 pub mod Scope
 pub mod Addresses

@@ -1,23 +1,13 @@
 //! The numbers of constants.
 
 ghost use Rattle.std.specs.Prelude.{◌≡◌};
-ghost use Rattle.wild_eval.specs.Const as spec;
+ghost use Rattle.wild_value_spec.specs.Const as spec;
 
 use crate::arithmetic::{apply, change, decides, divide, holds, truth, truth_of};
 use wild_expression_tree::{
     Arithmetic, Comparison, Connective, Division, Expression, Shape, Unary,
 };
-
-/// Why an expression has no constant number.
-#[derive(Clone, Copy, Debug, PartialEq, Eq)]
-pub enum ConstFault {
-    /// What is evaluated asks for something other than numbers and operators.
-    NotConstant,
-    /// An evaluated divisor is 0.
-    DivisionByZero,
-    /// The same, of a remainder.
-    ModuloByZero,
-}
+use wild_value_spec::ConstFault;
 
 fn zero_divisor(operator: Division) -> ConstFault
     ensures { result ≡ spec.zero_divisor operator }
@@ -54,7 +44,7 @@ pub fn evaluate_const(e: &Expression) -> Result<u64, ConstFault>
 
 // Both sides, the left one first.
 #[cycle(constants)]
-#[tactic(auto, unfolding(crate::specs::Const::arithmetic_value))]
+#[tactic(auto, unfolding(wild_value_spec::specs::Const::arithmetic_value))]
 fn arithmetic_value(operator: Arithmetic, a: &Expression, b: &Expression) -> Result<u64, ConstFault>
     ensures { result ≡ spec.arithmetic_value operator (spec.const a.now) (spec.const b.now) }
 {
@@ -65,7 +55,7 @@ fn arithmetic_value(operator: Arithmetic, a: &Expression, b: &Expression) -> Res
 
 // The divisor first, which must not be 0.
 #[cycle(constants)]
-#[tactic(auto, unfolding(crate::specs::Const::division_value))]
+#[tactic(auto, unfolding(wild_value_spec::specs::Const::division_value))]
 fn division_value(operator: Division, a: &Expression, b: &Expression) -> Result<u64, ConstFault>
     ensures { result ≡ spec.division_value operator (spec.const a.now) (spec.const b.now) }
 {
@@ -79,7 +69,7 @@ fn division_value(operator: Division, a: &Expression, b: &Expression) -> Result<
 
 // Both sides, the left one first.
 #[cycle(constants)]
-#[tactic(auto, unfolding(crate::specs::Const::comparison_value))]
+#[tactic(auto, unfolding(wild_value_spec::specs::Const::comparison_value))]
 fn comparison_value(operator: Comparison, a: &Expression, b: &Expression) -> Result<u64, ConstFault>
     ensures { result ≡ spec.comparison_value operator (spec.const a.now) (spec.const b.now) }
 {
@@ -90,7 +80,7 @@ fn comparison_value(operator: Comparison, a: &Expression, b: &Expression) -> Res
 
 // The right side only where the left one does not decide.
 #[cycle(constants)]
-#[tactic(auto, unfolding(crate::specs::Const::connective_value))]
+#[tactic(auto, unfolding(wild_value_spec::specs::Const::connective_value))]
 fn connective_value(operator: Connective, a: &Expression, b: &Expression) -> Result<u64, ConstFault>
     ensures { result ≡ spec.connective_value operator (spec.const a.now) (spec.const b.now) }
 {
@@ -104,7 +94,7 @@ fn connective_value(operator: Connective, a: &Expression, b: &Expression) -> Res
 
 // One side.
 #[cycle(constants)]
-#[tactic(auto, unfolding(crate::specs::Const::unary_value))]
+#[tactic(auto, unfolding(wild_value_spec::specs::Const::unary_value))]
 fn unary_value(operator: Unary, a: &Expression) -> Result<u64, ConstFault>
     ensures { result ≡ spec.unary_value operator (spec.const a.now) }
 {
@@ -114,7 +104,7 @@ fn unary_value(operator: Unary, a: &Expression) -> Result<u64, ConstFault>
 
 // The condition, and then the chosen side only.
 #[cycle(constants)]
-#[tactic(auto, unfolding(crate::specs::Const::ternary_value))]
+#[tactic(auto, unfolding(wild_value_spec::specs::Const::ternary_value))]
 fn ternary_value(condition: &Expression, a: &Expression, b: &Expression) -> Result<u64, ConstFault>
     ensures { result ≡ spec.ternary_value (spec.const condition.now) (spec.const a.now) (spec.const b.now) }
 {

@@ -12,9 +12,10 @@ mod plain;
 mod scope;
 
 pub use addresses::Addresses;
-pub use constant::{ConstFault, evaluate_const};
+pub use constant::evaluate_const;
 pub use plain::Evaluator;
 pub use scope::{Definition, Path, Scope, SymbolEntry};
+pub use wild_value_spec::ConstFault;
 
 #[cfg(test)]
 mod name_tests;

@@ -8,6 +8,7 @@ abbrev pub IsEarlyFault : Fault → Type 0
 IsEarlyFault (NotLaidOut statement name) = Unit {0}
 IsEarlyFault f = ⊥
 
+-- the answer is such a fault
 abbrev pub IsEarly : {A : Type 0} → Result A Fault → Type 0
 IsEarly (Ok x) = ⊥
 IsEarly (Err f) = IsEarlyFault f

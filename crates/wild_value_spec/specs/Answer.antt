@@ -1,5 +1,5 @@
 -- An answer is a value or the first fault.
-use Rattle.std.specs.Prelude.{◌≡◌, ◌⊎◌, Option, Some, None, Result, Ok, Err}
+use Rattle.std.specs.Prelude.{◌≡◌, ◌⊎◌, Option, Some, None, Result, Ok, Err, IsErr}
 use Rattle.wild_names.specs.declared.fault.Fault.{Fault}
 use Rattle.wild_names.specs.declared.fault.Fault.TheVariants.{NoMemory}
 
@@ -22,3 +22,8 @@ Fails f answer = (f ≡ NoMemory) ⊎ (answer ≡ Err f)
 abbrev pub Returns : {Y : Type 0} → Result Y Fault → Result Y Fault → Type 0
 Returns (Ok x) answer = answer ≡ Ok x
 Returns (Err f) answer = Fails f answer
+
+-- the same, where memory is only wanted to say a fault: it runs out in place of one alone
+abbrev pub Gives : {Y : Type 0} → Result Y Fault → Result Y Fault → Type 0
+Gives (Ok x) answer = answer ≡ Ok x
+Gives (Err f) answer = ((f ≡ NoMemory) × IsErr answer) ⊎ (answer ≡ Err f)

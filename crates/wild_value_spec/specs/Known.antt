@@ -2,13 +2,15 @@
 use Rattle.std.specs.Option.{unwrap_or}
 use Rattle.std.specs.Prelude.{◌≡◌, ℕ, ◌==◌, Bool, false, Option, Some, None, if◌then◌else◌}
 
--- the start, the load address or the end of a section, the address of a row, or the location counter at a place
+-- the start, the load address or the end of a section; the address of a row; the location counter at a place; and the start
+-- of the section that a place opens, as its load address reads it
 pub data Asked : Type 0 where
   Start : ℕ → Asked
   Load : ℕ → Asked
   End : ℕ → Asked
   Address : ℕ → Asked
   Dot : ℕ → Asked
+  LoadDot : ℕ → Asked
 
 -- the number of each, where it is known
 abbrev pub Known : Type 0
@@ -33,6 +35,7 @@ same_asked (Load a) (Load b) = a == b
 same_asked (End a) (End b) = a == b
 same_asked (Address a) (Address b) = a == b
 same_asked (Dot a) (Dot b) = a == b
+same_asked (LoadDot a) (LoadDot b) = a == b
 same_asked x y = false
 
 -- what is there, or else the other

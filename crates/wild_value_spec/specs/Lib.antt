@@ -1,4 +1,5 @@
 pub mod Answer
+pub mod Const
 pub mod Known
 pub mod Marks
 pub mod Numbers

@@ -1,5 +1,5 @@
 -- What a script and its table say to an expression, beside what is known of the layout.
-use Rattle.std.specs.Prelude.{ℕ, ◌+◌, ◌==◌, List, Option, count_by, take}
+use Rattle.std.specs.Prelude.{ℕ, ◌+◌, ◌==◌, List, Option, Some, None, slice_get, count_by, take}
 use Rattle.wild_expression_tree.specs.declared.tree.Expression.{Expression}
 use Rattle.wild_value_spec.specs.declared.value.Point.{Point}
 
@@ -21,10 +21,25 @@ pub record Scope : Type 0 where
   pub «section» : Name → Option ℕ
   -- the alignment of a section, as an exponent
   pub alignment : ℕ → ℕ
-  -- the definition that counts for a symbol
-  pub definition : Name → Option Definition
+  -- the number of the definition that counts for a symbol
+  pub symbol : Name → Option ℕ
+  pub definitions : List Definition
   -- the line of a position of the script, from 1
   pub line : ℕ → ℕ
+
+-- the definition of a number
+abbrev pub definition_at : List Definition → Option ℕ → Option Definition
+definition_at definitions None = None
+definition_at definitions (Some i) = slice_get definitions i
+
+-- the definition that counts for a symbol
+abbrev pub definition_of : Scope → Name → Option Definition
+definition_of scope name = definition_at scope.definitions (scope.symbol name)
+
+-- the section that a definition stands in
+abbrev pub home : Definition → Option ℕ
+home (OfRow row offset s) = Some s
+home (OfScript e p) = p.«section»
 
 -- the line of a position: 1, and one more for each newline before it
 unfoldable pub line_of : List ℕ → ℕ → ℕ

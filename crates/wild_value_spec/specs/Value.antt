@@ -17,13 +17,16 @@ use Rattle.wild_expression_tree.specs.declared.operator.Division.TheVariants as 
 use Rattle.wild_expression_tree.specs.declared.operator.Question.{Question}
 use Rattle.wild_expression_tree.specs.declared.operator.Question.TheVariants as question
 use Rattle.wild_expression_tree.specs.declared.operator.Unary.{Unary}
+use Rattle.wild_value_spec.specs.declared.value.DotSource.{DotSource}
+use Rattle.wild_value_spec.specs.declared.value.DotSource.TheVariants.{OfPlace, OfLoad, Zero, OfEnd}
 use Rattle.wild_value_spec.specs.declared.value.Point.{Point}
 use Rattle.wild_value_spec.specs.declared.value.Value.{Value}
+use Rattle.wild_value_spec.specs.declared.value.Whole.{Whole}
 use Rattle.wild_value_spec.specs.Answer.{◌>>=◌, or_fault}
-use Rattle.wild_value_spec.specs.Known.{Known, Start, Load, End, Address, Dot}
+use Rattle.wild_value_spec.specs.Known.{Known, Start, Load, End, Address, Dot, LoadDot}
 use Rattle.wild_value_spec.specs.Marks.{max_height, bare, unmarked, absolutely, relatively, absolutely_over, relatively_over, over, over_both, unmarked_over}
 use Rattle.wild_value_spec.specs.Numbers.{arithmetic_result, divided_by, holds, decides, unary_result, truth, is_true}
-use Rattle.wild_value_spec.specs.Scope.{Name, Definition, OfRow, OfScript, Scope}
+use Rattle.wild_value_spec.specs.Scope.{Name, Definition, OfRow, OfScript, Scope, definition_of, home}
 
 -- ---- faults and choices
 
@@ -58,19 +61,28 @@ multiple_value align x = multiple_from x.number align.number >>= (λ n. Ok (over
 module _ (scope : Scope) (statement : ℕ) (known : Known) where
   -- ---- what is known
 
-  -- the location counter at a place
-  unfoldable pub dot_of : ℕ → Result ℕ Fault
-  dot_of place = or_fault (known (Dot place)) (NotLaidOut statement (codes "."))
-
-  -- the start, the load address and the end of a section
+  -- the start of a section
   unfoldable pub start_of : ℕ → Result ℕ Fault
   start_of s = or_fault (known (Start s)) (NotLaidOut statement (scope.section_name s))
 
+  -- its load address
   unfoldable pub load_of : ℕ → Result ℕ Fault
   load_of s = or_fault (known (Load s)) (NotLaidOut statement (scope.section_name s))
 
+  -- its end
   unfoldable pub end_of : ℕ → Result ℕ Fault
   end_of s = or_fault (known (End s)) (NotLaidOut statement (scope.section_name s))
+
+  -- what `.` is read as at a place
+  abbrev pub dot_by : ℕ → DotSource → Result ℕ Fault
+  dot_by place OfPlace = or_fault (known (Dot place)) (NotLaidOut statement (codes "."))
+  dot_by place OfLoad = or_fault (known (LoadDot place)) (NotLaidOut statement (codes "."))
+  dot_by place Zero = Ok 0
+  dot_by place (OfEnd s) = end_of s
+
+  -- `.` of a point
+  unfoldable pub dot_of : Point → Result ℕ Fault
+  dot_of p = dot_by p.place p.dot
 
   -- the address of the row of a symbol
   unfoldable pub row_of : Name → ℕ → Result ℕ Fault
@@ -94,13 +106,14 @@ module _ (scope : Scope) (statement : ℕ) (known : Known) where
   unfoldable pub judgement : Comparison → Point → ℕ → Value → Value → Result Value Fault
   judgement o p left x y = full_number p y >>= (λ right. Ok (unmarked_over (truth (holds o left right)) x y))
 
-  -- `.`, the location counter, which inside a section counts from the section's start
+  -- a location counter, which inside a section counts from the section's start
   abbrev pub counter_in : Option ℕ → ℕ → Result Value Fault
   counter_in None n = Ok (absolutely n)
   counter_in (Some s) n = start_of s >>= (λ start. Ok (relatively (n - start)))
 
+  -- the value of `.`
   unfoldable pub counter : Point → Result Value Fault
-  counter p = dot_of p.place >>= counter_in p.«section»
+  counter p = dot_of p >>= counter_in p.«section»
 
   -- the number of the location counter alone
   unfoldable pub counter_number : Point → Result Value Fault
@@ -135,10 +148,11 @@ module _ (scope : Scope) (statement : ℕ) (known : Known) where
   address_in of name None = Err (UnknownSection name)
   address_in of name (Some s) = of s >>= (λ n. Ok (absolutely n))
 
-  -- ADDR and LOADADDR
+  -- ADDR
   unfoldable pub start_named : Name → Result Value Fault
   start_named name = address_in start_of name (scope.«section» name)
 
+  -- LOADADDR
   unfoldable pub load_named : Name → Result Value Fault
   load_named name = address_in load_of name (scope.«section» name)
 
@@ -146,7 +160,7 @@ module _ (scope : Scope) (statement : ℕ) (known : Known) where
 
   -- 1 where the name has a definition
   unfoldable pub defined_value : Name → Value
-  defined_value name = unmarked (truth (is_some (scope.definition name)))
+  defined_value name = unmarked (truth (is_some (definition_of scope name)))
 
   -- what is asked of a name
   abbrev pub named_value : Question → Name → Result Value Fault
@@ -159,25 +173,29 @@ module _ (scope : Scope) (statement : ℕ) (known : Known) where
   named_value question.Defined name = Ok (defined_value name)
 
   -- an address counted from the start of its section, of parts of this height
-  unfoldable pub from_start : Name → ℕ → ℕ → ℕ → Result Value Fault
-  from_start name address height start =
-      if nat_lt address start then Err (BeforeSection name) else Ok (relatively_over (address - start) height)
+  unfoldable pub from_start : Name → Whole → ℕ → Result Value Fault
+  from_start name w start =
+      if nat_lt w.number start then Err (BeforeSection name) else Ok (relatively_over (w.number - start) w.height)
 
   -- an address in a section, as it is read in a section: from the start where they are the same
-  abbrev pub symbol_value_in : Name → ℕ → ℕ → Option ℕ → Option ℕ → Result Value Fault
-  symbol_value_in name address height (Some s) (Some t) =
-      if s == t then start_of s >>= from_start name address height else Ok (absolutely_over address height)
-  symbol_value_in name address height (Some s) None = Ok (absolutely_over address height)
-  symbol_value_in name address height None t = Ok (absolutely_over address height)
+  abbrev pub symbol_value_in : Name → Whole → Option ℕ → Option ℕ → Result Value Fault
+  symbol_value_in name w (Some s) (Some t) =
+      if s == t then start_of s >>= from_start name w else Ok (absolutely_over w.number w.height)
+  symbol_value_in name w (Some s) None = Ok (absolutely_over w.number w.height)
+  symbol_value_in name w None t = Ok (absolutely_over w.number w.height)
 
-  -- the address of a symbol of that section, as it is read at a point
-  unfoldable pub symbol_value : Name → Option ℕ → Point → ℕ → ℕ → Result Value Fault
-  symbol_value name of p address height = symbol_value_in name address height of p.«section»
+  -- what a symbol of that section is worth, as it is read at a point
+  unfoldable pub symbol_value : Name → Option ℕ → Point → Whole → Result Value Fault
+  symbol_value name of p w = symbol_value_in name w of p.«section»
 
-  -- a symbol of the table: so far after the start of its row
-  unfoldable pub table_symbol : Name → ℕ → ℕ → ℕ → Point → Result Value Fault
-  table_symbol name row offset s p =
-      row_of name row >>= (λ start. sum_of start offset >>= (λ address. symbol_value name (Some s) p address 0))
+  -- what a symbol of the table is worth: so far after the start of its row
+  unfoldable pub row_whole : Name → ℕ → ℕ → Result Whole Fault
+  row_whole name row offset =
+      row_of name row >>= (λ start. sum_of start offset >>= (λ n. Ok (record { number = n; height = 0 })))
+
+  -- the number that a value stands for, and its height
+  unfoldable pub value_whole : Point → Value → Result Whole Fault
+  value_whole p x = full_number p x >>= (λ n. Ok (record { number = n; height = x.height }))
 
   -- ---- the kinds of nodes, over their parts, whose values `eval` gives on a path
   module _ (eval : List Name → Expression → Point → Result Value Fault) (path : List Name) where
@@ -209,6 +227,7 @@ module _ (scope : Scope) (statement : ℕ) (known : Known) where
         if decides o x.number then Ok (over (truth (is_true x.number)) x) else
         (part b p >>= (λ y. Ok (over_both (truth (is_true y.number)) x y))))
 
+    -- what the operator makes of the one part
     unfoldable pub unary_value : Unary → Expression → Point → Result Value Fault
     unary_value o a p = part a p >>= (λ x. Ok (over (unary_result o x.number) x))
 
@@ -227,15 +246,14 @@ module _ (scope : Scope) (statement : ℕ) (known : Known) where
         part n p >>= (λ align.
         if align.number == 0 then Err (AlignZero statement) else (subject a p >>= (λ x. multiple_value align x)))
 
-    -- a symbol of the script: the full value of its expression at its own point, with it on the path
-    unfoldable pub script_symbol : Name → Expression → Point → Point → Result Value Fault
-    script_symbol name e q p =
-        eval (name ∷ path) e q >>= (λ x. full_number q x >>= (λ address. symbol_value name q.«section» p address x.height))
+    -- what a definition is worth at its own point, on a path that holds its name
+    abbrev pub whole : List Name → Name → Definition → Result Whole Fault
+    whole along name (OfRow row offset s) = row_whole name row offset
+    whole along name (OfScript e q) = eval along e q >>= value_whole q
 
-    -- a symbol by its definition
-    abbrev pub symbol_by : Name → Definition → Point → Result Value Fault
-    symbol_by name (OfRow row offset s) p = table_symbol name row offset s p
-    symbol_by name (OfScript e q) p = script_symbol name e q p
+    -- a symbol by its definition, with it on the path
+    unfoldable pub symbol_by : Name → Definition → Point → Result Value Fault
+    symbol_by name d p = whole (name ∷ path) name d >>= symbol_value name (home d) p
 
     -- what has the definition, unless it is on the path
     abbrev pub symbol_in : Name → Option Definition → Point → Result Value Fault
@@ -244,7 +262,7 @@ module _ (scope : Scope) (statement : ℕ) (known : Known) where
 
     -- a symbol by its name
     unfoldable pub symbol : Name → Point → Result Value Fault
-    symbol name p = symbol_in name (scope.definition name) p
+    symbol name p = symbol_in name (definition_of scope name) p
 
     -- a condition, which must not be 0; what is said where it is, and where its bracket stands
     unfoldable pub assert_value : Expression → Name → ℕ → Point → Result Value Fault

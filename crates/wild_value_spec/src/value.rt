@@ -12,11 +12,32 @@ pub struct Value {
     pub height: usize,
 }
 
+/// What a definition is worth: the number that it stands for, and the height of the value that gave it, 0 for a row.
+#[derive(Clone, Copy, Debug, PartialEq, Eq)]
+pub struct Whole {
+    pub number: u64,
+    pub height: usize,
+}
+
+/// What `.` is read as.
+#[derive(Clone, Copy, Debug, PartialEq, Eq)]
+pub enum DotSource {
+    /// The location counter of the place; in the contents of a section its cursor.
+    OfPlace,
+    /// The start of the section that the place opens: where its load address is read.
+    OfLoad,
+    /// 0: outside of SECTIONS.
+    Zero,
+    /// The end of the section of this number: outside of SECTIONS, behind it.
+    OfEnd(usize),
+}
+
 /// Where an expression is read.
 #[derive(Clone, Copy, Debug, PartialEq, Eq)]
 pub struct Point {
     /// The number of the place, from 0 in text order.
     pub place: usize,
+    pub dot: DotSource,
     /// The section in whose contents it stands, from 0 in text order.
     pub section: Option<usize>,
 }

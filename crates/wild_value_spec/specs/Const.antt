@@ -1,7 +1,7 @@
 -- The number of a constant: an expression of numbers and operators alone.
 use Rattle.std.specs.Prelude.{ℕ, ◌==◌, if◌then◌else◌, Result, Ok, Err}
-use Rattle.wild_eval.specs.declared.constant.ConstFault.{ConstFault}
-use Rattle.wild_eval.specs.declared.constant.ConstFault.TheVariants.{NotConstant, DivisionByZero, ModuloByZero}
+use Rattle.wild_value_spec.specs.declared.constant.ConstFault.{ConstFault}
+use Rattle.wild_value_spec.specs.declared.constant.ConstFault.TheVariants.{NotConstant, DivisionByZero, ModuloByZero}
 use Rattle.wild_expression_tree.specs.declared.tree.Expression.{Expression}
 use Rattle.wild_expression_tree.specs.Shape.{Shape, Number, Ternary, fold}
 use Rattle.wild_expression_tree.specs.declared.operator.Arithmetic.{Arithmetic}
@@ -17,12 +17,14 @@ use Rattle.wild_value_spec.specs.Numbers.{arithmetic_result, divided_by, holds, 
 abbrev pub Constant : Type 0
 Constant = Result ℕ ConstFault
 
+-- the fault of a divisor that is 0
 abbrev pub zero_divisor : Division → ConstFault
 zero_divisor division.Divide = DivisionByZero
 zero_divisor division.Modulo = ModuloByZero
 
 -- ---- nodes over what their parts are, of which only those count that the word asks for
 
+-- both sides, the left one first
 unfoldable pub arithmetic_value : Arithmetic → Constant → Constant → Constant
 arithmetic_value o a b = a >>= (λ x. b >>= (λ y. Ok (arithmetic_result o x y)))
 
@@ -30,6 +32,7 @@ arithmetic_value o a b = a >>= (λ x. b >>= (λ y. Ok (arithmetic_result o x y))
 unfoldable pub division_value : Division → Constant → Constant → Constant
 division_value o a b = b >>= (λ y. if y == 0 then Err (zero_divisor o) else (a >>= (λ x. Ok (divided_by o x y))))
 
+-- 1 where it holds, else 0
 unfoldable pub comparison_value : Comparison → Constant → Constant → Constant
 comparison_value o a b = a >>= (λ x. b >>= (λ y. Ok (truth (holds o x y))))
 
@@ -37,6 +40,7 @@ comparison_value o a b = a >>= (λ x. b >>= (λ y. Ok (truth (holds o x y))))
 unfoldable pub connective_value : Connective → Constant → Constant → Constant
 connective_value o a b = a >>= (λ x. if decides o x then Ok (truth (is_true x)) else (b >>= (λ y. Ok (truth (is_true y)))))
 
+-- `!`, `~` and `-`
 unfoldable pub unary_value : Unary → Constant → Constant
 unary_value o a = a >>= (λ x. Ok (unary_result o x))
 
@@ -57,5 +61,6 @@ constant (Shape.Unary o a) = unary_value o a
 constant (Ternary c a b) = ternary_value c a b
 constant s = Err NotConstant
 
+-- the number of an expression, or the first fault; what is not evaluated doesn't count
 abbrev pub const : Expression → Constant
 const = fold constant
