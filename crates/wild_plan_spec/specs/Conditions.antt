@@ -6,23 +6,33 @@ use Rattle.wild_value_spec.specs.Answer.{◌>>=◌}
 use Rattle.wild_value_spec.specs.Known.{Known}
 use Rattle.wild_value_spec.specs.Scope.{Scope}
 use Rattle.wild_value_spec.specs.Value.{assert_statement}
-use Rattle.wild_plan_spec.specs.Definitions.{point_of}
-use Rattle.wild_plan_spec.specs.Places.{Place, Task, Assign, Provide, Locate, Check, task_of}
+use Rattle.wild_plan_spec.specs.declared.place.Where.{Where}
+use Rattle.wild_plan_spec.specs.Places.{Place, SetLocation, Wait, Open, Collect, Rows, Close, Idle, Task, Assign, Provide, Locate, Check}
+use Rattle.wild_plan_spec.specs.Points.{task_point}
 
 module _ (scope : Scope) (known : Known) where
   -- the condition of an ASSERT is not 0
-  abbrev pub assert_holds : ℕ → AssertCommand → Result (Unit {0}) Fault
-  assert_holds i c = assert_statement scope i known c (point_of i) >>= (λ x. Ok tt)
+  abbrev pub assert_holds : ℕ → Where → AssertCommand → Result (Unit {0}) Fault
+  assert_holds i w c = assert_statement scope i known c (task_point i w) >>= (λ x. Ok tt)
 
   -- where a task is a condition, it holds
-  unfoldable pub task_holds : ℕ → Option Task → Result (Unit {0}) Fault
-  task_holds i (Some (Check c)) = assert_holds i c
-  task_holds i (Some (Assign name e)) = Ok tt
-  task_holds i (Some (Provide d)) = Ok tt
-  task_holds i (Some (Locate e)) = Ok tt
-  task_holds i None = Ok tt
+  unfoldable pub task_holds : ℕ → Where → Task → Result (Unit {0}) Fault
+  task_holds i w (Check c) = assert_holds i w c
+  task_holds i w (Assign name e) = Ok tt
+  task_holds i w (Provide d) = Ok tt
+  task_holds i w (Locate e) = Ok tt
+
+  -- where a place is one, it holds
+  unfoldable pub place_holds : ℕ → Place → Result (Unit {0}) Fault
+  place_holds i (Wait w task) = task_holds i w task
+  place_holds i (SetLocation e) = Ok tt
+  place_holds i (Open s) = Ok tt
+  place_holds i (Collect q m) = Ok tt
+  place_holds i (Rows q) = Ok tt
+  place_holds i (Close s rest) = Ok tt
+  place_holds i Idle = Ok tt
 
   -- in text order; the first place of the list has the number i
   abbrev pub conditions : ℕ → List Place → Result (Unit {0}) Fault
   conditions i [] = Ok tt
-  conditions i (p ∷ ps) = task_holds i (task_of p) >>= (λ u. conditions (i + 1) ps)
+  conditions i (p ∷ ps) = place_holds i p >>= (λ u. conditions (i + 1) ps)

@@ -1,14 +1,14 @@
 -- The definitions of symbols.
 use Rattle.std.specs.Prelude.{ℕ, ◌+◌, List, [], ◌∷◌, ◌++◌, Option, Some, None, slice_get}
-use Rattle.wild_numbering.specs.Numbering.{number_of}
 use Rattle.wild_script.specs.declared.tree.ProvideSymbolDefinition.{ProvideSymbolDefinition}
-use Rattle.wild_value_spec.specs.declared.value.Point.{Point}
 use Rattle.wild_value_spec.specs.Scope.{Definition, OfRow, OfScript}
 use Rattle.wild_plan_spec.specs.declared.chunk.Chunk.{Chunk}
 use Rattle.wild_plan_spec.specs.declared.chunk.Kept.{Kept}
+use Rattle.wild_plan_spec.specs.declared.place.Where.{Where}
 use Rattle.wild_plan_spec.specs.declared.row.SymbolRow.{SymbolRow}
 use Rattle.wild_plan_spec.specs.Names.{Name}
-use Rattle.wild_plan_spec.specs.Places.{Place, Task, Assign, Provide, task_of}
+use Rattle.wild_plan_spec.specs.Places.{Place, Wait, Assign, Provide}
+use Rattle.wild_plan_spec.specs.Points.{task_point}
 
 -- a name, and what it is defined as
 pub record SymbolEntry : Type 0 where
@@ -44,33 +44,29 @@ table_entries fates (s ∷ ss) = table_entry s (symbol_chunk fates s) ++ table_e
 
 -- ---- symbols of the script
 
--- place i, which is in no section's contents
-abbrev pub point_of : ℕ → Point
-point_of i = record { place = i; «section» = None }
-
 -- the entry of an assignment at place i
-abbrev pub assigned_by : ℕ → Option Task → List SymbolEntry
-assigned_by i (Some (Assign name value)) = entry_of name (OfScript value (point_of i))
-assigned_by i task = []
+abbrev pub assigned_entry : ℕ → Place → List SymbolEntry
+assigned_entry i (Wait w (Assign name value)) = entry_of name (OfScript value (task_point i w))
+assigned_entry i p = []
 
 -- the assignments; the first place of the list has the number i
 abbrev pub assigned_entries : ℕ → List Place → List SymbolEntry
 assigned_entries i [] = []
-assigned_entries i (p ∷ ps) = assigned_by i (task_of p) ++ assigned_entries (i + 1) ps
+assigned_entries i (p ∷ ps) = assigned_entry i p ++ assigned_entries (i + 1) ps
 
--- the entry of a PROVIDE at place i
-abbrev pub provide_entry : ℕ → ProvideSymbolDefinition → List SymbolEntry
-provide_entry i d = entry_of d.name (OfScript d.value (point_of i))
+-- the entry of a PROVIDE that stands here at place i
+abbrev pub provide_entry : ℕ → Where → ProvideSymbolDefinition → List SymbolEntry
+provide_entry i w d = entry_of d.name (OfScript d.value (task_point i w))
 
--- the same, where the task is one
-abbrev pub provided_by : ℕ → Option Task → List SymbolEntry
-provided_by i (Some (Provide d)) = provide_entry i d
-provided_by i task = []
+-- the entry of a place, where it is a PROVIDE
+abbrev pub provided_entry : ℕ → Place → List SymbolEntry
+provided_entry i (Wait w (Provide d)) = provide_entry i w d
+provided_entry i p = []
 
 -- the PROVIDEs
 abbrev pub provided_entries : ℕ → List Place → List SymbolEntry
 provided_entries i [] = []
-provided_entries i (p ∷ ps) = provided_by i (task_of p) ++ provided_entries (i + 1) ps
+provided_entries i (p ∷ ps) = provided_entry i p ++ provided_entries (i + 1) ps
 
 -- ---- the definition that counts
 
@@ -87,16 +83,7 @@ abbrev pub entry_names : List SymbolEntry → List Name
 entry_names [] = []
 entry_names (e ∷ es) = e.name ∷ entry_names es
 
--- what an entry says
-abbrev pub definition_at : Option SymbolEntry → Option Definition
-definition_at None = None
-definition_at (Some e) = Some e.definition
-
--- what the entry of this number says
-abbrev pub numbered_definition : List SymbolEntry → Option ℕ → Option Definition
-numbered_definition es None = None
-numbered_definition es (Some i) = definition_at (slice_get es i)
-
--- that of the first entry of the name
-abbrev pub definition_in : List SymbolEntry → Name → Option Definition
-definition_in es name = numbered_definition es (number_of name (entry_names es))
+-- what they say, in order
+abbrev pub definitions_in : List SymbolEntry → List Definition
+definitions_in [] = []
+definitions_in (e ∷ es) = e.definition ∷ definitions_in es

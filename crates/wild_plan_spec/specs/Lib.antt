@@ -1,6 +1,7 @@
 pub mod Names
 pub mod Statements
 pub mod Places
+pub mod Points
 pub mod Rules
 pub mod Fates
 pub mod Orphans
@@ -8,7 +9,10 @@ pub mod Chunks
 pub mod Order
 pub mod Built
 pub mod Definitions
+pub mod Facts
+pub mod Case
 pub mod Scopes
+pub mod Ground
 pub mod Checks
 pub mod Overlaps
 pub mod Steps

@@ -13,6 +13,8 @@ use Rattle.wild_script.specs.declared.tree.ContentsCommand.{ContentsCommand}
 use Rattle.wild_script.specs.declared.tree.ContentsCommand.TheVariants.{Matcher as OfMatcher}
 use Rattle.wild_script.specs.declared.tree.Matcher.{Matcher}
 use Rattle.wild_plan_spec.specs.declared.chunk.Chunk.{Chunk}
+use Rattle.wild_plan_spec.specs.declared.place.Where.{Where}
+use Rattle.wild_plan_spec.specs.declared.place.Where.TheVariants.{Outermost, Between}
 use Rattle.wild_plan_spec.specs.Names.{Name}
 use Rattle.wild_plan_spec.specs.Statements.{Statement, Inner, Outer, is_discard, statements_of, sections_of}
 
@@ -31,10 +33,8 @@ pub data Task : Type 0 where
 pub data Place : Type 0 where
   -- the location counter becomes the value of an expression
   SetLocation : Expression → Place
-  -- a task in SECTIONS
-  Within : Task → Place
-  -- a task of an outermost statement
-  Outside : Task → Place
+  -- a task, which waits until all places are laid out
+  Wait : Where → Task → Place
   -- the section of this number begins
   Open : ℕ → Place
   -- a matcher, with the rows of the chunk for which it collects; those of `/DISCARD/` collect for none
@@ -45,17 +45,6 @@ pub data Place : Type 0 where
   Close : ℕ → Option Chunk → Place
   -- `/DISCARD/` begins or ends, which does nothing
   Idle : Place
-
--- the task of a place
-abbrev pub task_of : Place → Option Task
-task_of (Within task) = Some task
-task_of (Outside task) = Some task
-task_of p = None
-
--- the chunks of matchers up to the end of a place that k chunks precede
-abbrev pub next_chunk : ℕ → Place → ℕ
-next_chunk k (Collect (Some q) m) = k + 1
-next_chunk k p = k
 
 -- the statements of section s, whose next chunk has this number
 abbrev pub contents_places : ℕ → ℕ → List ContentsCommand → List Place
@@ -84,16 +73,16 @@ discard_places x = Idle ∷ (discarding_places x.commands ++ Idle ∷ [])
 abbrev pub inner_places : ℕ → SectionCommand → List Place
 inner_places s (inner.Section x) = if is_discard x then discard_places x else section_places s x
 inner_places s (inner.SetLocation l) = SetLocation l.address ∷ []
-inner_places s (inner.SymbolAssignment a) = Within (Assign a.name a.expr) ∷ []
-inner_places s (inner.Provide d) = Within (Provide d) ∷ []
-inner_places s (inner.Assert c) = Within (Check c) ∷ []
+inner_places s (inner.SymbolAssignment a) = Wait Between (Assign a.name a.expr) ∷ []
+inner_places s (inner.Provide d) = Wait Between (Provide d) ∷ []
+inner_places s (inner.Assert c) = Wait Between (Check c) ∷ []
 
 -- an outermost command other than SECTIONS
 abbrev pub outer_places : Command → List Place
-outer_places (command.SymbolDefinition name value) = Outside (Assign name value) ∷ []
-outer_places (command.SetLocation l) = Outside (Locate l.address) ∷ []
-outer_places (command.Provide d) = Outside (Provide d) ∷ []
-outer_places (command.Assert c) = Outside (Check c) ∷ []
+outer_places (command.SymbolDefinition name value) = Wait Outermost (Assign name value) ∷ []
+outer_places (command.SetLocation l) = Wait Outermost (Locate l.address) ∷ []
+outer_places (command.Provide d) = Wait Outermost (Provide d) ∷ []
+outer_places (command.Assert c) = Wait Outermost (Check c) ∷ []
 outer_places (command.Sections s) = []
 
 -- the places of a statement, whose section, if it is one, has the number s

@@ -6,15 +6,17 @@ use Rattle.wild_expression_tree.specs.declared.tree.Expression.{Expression}
 use Rattle.wild_script.specs.declared.tree.ProvideSymbolDefinition.{ProvideSymbolDefinition}
 use Rattle.wild_value_spec.specs.Answer.{◌>>=◌}
 use Rattle.wild_value_spec.specs.Known.{Known, Address, number_at}
-use Rattle.wild_value_spec.specs.Scope.{Definition, OfScript, Scope}
-use Rattle.wild_value_spec.specs.Value.{full}
+use Rattle.wild_value_spec.specs.Scope.{Definition, OfScript, Scope, definition_of}
+use Rattle.wild_value_spec.specs.Value.{full_value}
 use Rattle.wild_plan_spec.specs.declared.chunk.Chunk.{Chunk}
 use Rattle.wild_plan_spec.specs.declared.chunk.Kept.{Kept}
 use Rattle.wild_plan_spec.specs.declared.placed.PlacedSymbol.{PlacedSymbol}
+use Rattle.wild_plan_spec.specs.declared.place.Where.{Where}
 use Rattle.wild_plan_spec.specs.declared.row.SymbolRow.{SymbolRow}
-use Rattle.wild_plan_spec.specs.Definitions.{point_of, symbol_chunk}
+use Rattle.wild_plan_spec.specs.Definitions.{symbol_chunk}
 use Rattle.wild_plan_spec.specs.Names.{Name}
-use Rattle.wild_plan_spec.specs.Places.{Place, Task, Assign, Provide, Locate, Check, task_of}
+use Rattle.wild_plan_spec.specs.Places.{Place, SetLocation, Wait, Open, Collect, Rows, Close, Idle, Task, Assign, Provide, Locate, Check}
+use Rattle.wild_plan_spec.specs.Points.{task_point}
 
 -- ---- of the table
 
@@ -41,31 +43,41 @@ is_at i d = false
 
 module _ (scope : Scope) (known : Known) where
   -- an expression has a value, and nothing is listed
-  unfoldable pub unlisted : ℕ → Expression → Result (Option PlacedSymbol) Fault
-  unlisted i e = full scope i known 1024 [] e (point_of i) >>= (λ n. Ok None)
+  unfoldable pub unlisted : ℕ → Where → Expression → Result (Option PlacedSymbol) Fault
+  unlisted i w e = full_value scope i known [] e (task_point i w) >>= (λ n. Ok None)
 
   -- a symbol is listed with its value, which must not ask for itself
-  unfoldable pub listed_symbol : ℕ → Name → Expression → Bool → Result (Option PlacedSymbol) Fault
-  listed_symbol i name e hidden = full scope i known 1024 (name ∷ []) e (point_of i) >>= (λ n. Ok (Some (script_symbol name hidden n)))
+  unfoldable pub listed_symbol : ℕ → Where → Name → Expression → Bool → Result (Option PlacedSymbol) Fault
+  listed_symbol i w name e hidden =
+      full_value scope i known (name ∷ []) e (task_point i w) >>= (λ n. Ok (Some (script_symbol name hidden n)))
 
   -- an empty name is not listed
-  abbrev pub assignment_symbol : ℕ → Name → Expression → Result (Option PlacedSymbol) Fault
-  assignment_symbol i [] e = unlisted i e
-  assignment_symbol i (b ∷ bs) e = listed_symbol i (b ∷ bs) e false
+  abbrev pub assignment_symbol : ℕ → Where → Name → Expression → Result (Option PlacedSymbol) Fault
+  assignment_symbol i w [] e = unlisted i w e
+  assignment_symbol i w (b ∷ bs) e = listed_symbol i w (b ∷ bs) e false
 
   -- where it is the definition that counts
-  abbrev pub provide_symbol : ℕ → ProvideSymbolDefinition → Result (Option PlacedSymbol) Fault
-  provide_symbol i d = if is_at i (scope.definition d.name) then listed_symbol i d.name d.value d.hidden else Ok None
+  abbrev pub provide_symbol : ℕ → Where → ProvideSymbolDefinition → Result (Option PlacedSymbol) Fault
+  provide_symbol i w d = if is_at i (definition_of scope d.name) then listed_symbol i w d.name d.value d.hidden else Ok None
 
-  -- what a task lists
-  unfoldable pub task_symbol : ℕ → Option Task → Result (Option PlacedSymbol) Fault
-  task_symbol i (Some (Assign name e)) = assignment_symbol i name e
-  task_symbol i (Some (Provide d)) = provide_symbol i d
-  task_symbol i (Some (Locate e)) = unlisted i e
-  task_symbol i (Some (Check c)) = Ok None
-  task_symbol i None = Ok None
+  -- what a task that stands here lists
+  unfoldable pub task_symbol : ℕ → Where → Task → Result (Option PlacedSymbol) Fault
+  task_symbol i w (Assign name e) = assignment_symbol i w name e
+  task_symbol i w (Provide d) = provide_symbol i w d
+  task_symbol i w (Locate e) = unlisted i w e
+  task_symbol i w (Check c) = Ok None
+
+  -- what a place lists
+  unfoldable pub place_symbol : ℕ → Place → Result (Option PlacedSymbol) Fault
+  place_symbol i (Wait w task) = task_symbol i w task
+  place_symbol i (SetLocation e) = Ok None
+  place_symbol i (Open s) = Ok None
+  place_symbol i (Collect q m) = Ok None
+  place_symbol i (Rows q) = Ok None
+  place_symbol i (Close s rest) = Ok None
+  place_symbol i Idle = Ok None
 
   -- those of the places, in text order; the first place of the list has the number i
   abbrev pub symbols : ℕ → List Place → Result (List PlacedSymbol) Fault
   symbols i [] = Ok []
-  symbols i (p ∷ ps) = task_symbol i (task_of p) >>= (λ s. symbols (i + 1) ps >>= (λ found. Ok (option_to_list s ++ found)))
+  symbols i (p ∷ ps) = place_symbol i p >>= (λ s. symbols (i + 1) ps >>= (λ found. Ok (option_to_list s ++ found)))
