@@ -1,1 +1,3 @@
+pub mod Anywhere
+pub mod Related
 pub mod Stable

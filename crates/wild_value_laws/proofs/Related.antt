@@ -1,0 +1,215 @@
+-- What goes on through steps, and holds of the leaves, holds of each kind of node, and so of values.
+use Rattle.std.proofs.Common.{◌≡◌, ℕ, zero, suc, Bool, true, false, ◌^◌, not, ◌||◌, ◌==◌, cond, List, ◌∷◌, Option, Some, None, Result, Ok, Err, refl, ap, subst}
+use Rattle.wild_names.specs.declared.fault.Fault.{Fault}
+use Rattle.wild_names.specs.declared.fault.Fault.TheVariants.{AlignZero, AssertFailed, DeepValue, SymbolCycle, Unsupported}
+use Rattle.wild_expression_tree.specs.declared.tree.Expression.{Expression}
+use Rattle.wild_expression_tree.specs.Shape.{Shape, Number, LocationCounter, SizeofHeaders, Symbol, Named, Ternary, Align, SegmentStart, Assert, shape}
+use Rattle.wild_expression_tree.specs.declared.operator.Arithmetic.{Arithmetic}
+use Rattle.wild_expression_tree.specs.declared.operator.Comparison.{Comparison}
+use Rattle.wild_expression_tree.specs.declared.operator.Connective.{Connective}
+use Rattle.wild_expression_tree.specs.declared.operator.Division.{Division}
+use Rattle.wild_expression_tree.specs.declared.operator.Question.{Question}
+use Rattle.wild_expression_tree.specs.declared.operator.Question.TheVariants as question
+use Rattle.wild_expression_tree.specs.declared.operator.Unary.{Unary}
+use Rattle.wild_value_spec.specs.declared.value.DotSource.{DotSource}
+use Rattle.wild_value_spec.specs.declared.value.DotSource.TheVariants.{OfPlace, OfLoad, Zero, OfEnd}
+use Rattle.wild_value_spec.specs.declared.value.Point.{Point}
+use Rattle.wild_value_spec.specs.declared.value.Value.{Value}
+use Rattle.wild_value_spec.specs.declared.value.Whole.{Whole}
+use Rattle.wild_value_spec.specs.Answer.{◌>>=◌}
+use Rattle.wild_value_spec.specs.Known.{Known, Start, Load, End, Address, Dot, LoadDot}
+use Rattle.wild_value_spec.specs.Marks.{unmarked, over}
+use Rattle.wild_value_spec.specs.Numbers.{decides, truth}
+use Rattle.wild_value_spec.specs.Scope.{Name, Definition, OfRow, OfScript, Scope, definition_of, home}
+use Rattle.wild_value_spec.specs.Value as v
+use Rattle.wild_value_laws.specs.Related.{Relation, Passes, Side, Agree, Leaves, Along}
+
+-- what gives the values of parts
+abbrev Evaluator : Type 0
+Evaluator = List Name → Expression → Point → Result Value Fault
+
+-- a scope agrees with itself
+pub itself : (scope : Scope) → Agree scope scope
+itself scope = record { section_name = λ s. refl; «section» = λ name. refl; alignment = λ s. refl; line = λ at. refl; defined = λ name. refl }
+
+module _ (R : Relation) (passes : Passes R) where
+  open passes use {same, on}
+
+  -- of two choices by one test
+  choose : {A : Type 0} (t : Bool) {r s u w : Result A Fault} → R A r s → R A u w → R A (cond t r u) (cond t s w)
+  choose true h k = h
+  choose false h k = k
+
+  -- of what both make of equal things
+  at : {X A : Type 0} {x y : X} {f g : X → Result A Fault} → x ≡ y → ((z : X) → R A (f z) (g z)) → R A (f x) (g y)
+  at {x} {f} {g} e h = subst (λ z. R _ (f x) (g z)) e (h x)
+
+  module _ (a b : Side) (leaves : Leaves R a b) where
+    open leaves use {asked, fails, scopes}
+
+    -- of what each side answers by this
+    abbrev Each : {A : Type 0} → (Scope → ℕ → Known → Result A Fault) → Type 0
+    Each {A} w = R A (w a.scope a.statement a.known) (w b.scope b.statement b.known)
+
+    -- ---- what is known
+
+    start : (s : ℕ) → Each (λ i j k. v.start_of i j k s)
+    unfolding v.start_of
+    start s = at (scopes.section_name s) (asked (Start s))
+
+    load : (s : ℕ) → Each (λ i j k. v.load_of i j k s)
+    unfolding v.load_of
+    load s = at (scopes.section_name s) (asked (Load s))
+
+    last : (s : ℕ) → Each (λ i j k. v.end_of i j k s)
+    unfolding v.end_of
+    last s = at (scopes.section_name s) (asked (End s))
+
+    dot_by : (place : ℕ) (d : DotSource) → Each (λ i j k. v.dot_by i j k place d)
+    dot_by place OfPlace = asked (Dot place) _
+    dot_by place OfLoad = asked (LoadDot place) _
+    dot_by place Zero = same _
+    dot_by place (OfEnd s) = last s
+
+    -- ---- full values and `.`
+
+    full_number_in : (o : Option ℕ) (x : Value) → Each (λ i j k. v.full_number_in i j k o x)
+    full_number_in None x = same _
+    full_number_in (Some s) x = choose (x.relative || not x.absolute) (on (start s) (λ n. same _)) (same _)
+
+    full_number : (p : Point) (x : Value) → Each (λ i j k. v.full_number i j k p x)
+    unfolding v.full_number
+    full_number p x = full_number_in p.«section» x
+
+    counter_in : (o : Option ℕ) (n : ℕ) → Each (λ i j k. v.counter_in i j k o n)
+    counter_in None n = same _
+    counter_in (Some s) n = on (start s) (λ m. same _)
+
+    counter : (p : Point) → Each (λ i j k. v.counter i j k p)
+    unfolding v.counter v.dot_of
+    counter p = on (dot_by p.place p.dot) (λ n. counter_in p.«section» n)
+
+    -- ---- sections and symbols
+
+    size_in : (o : Option ℕ) → Each (λ i j k. v.size_in i j k o)
+    unfolding v.extent
+    size_in None = same _
+    size_in (Some s) = on (last s) (λ n. on (start s) (λ m. same _))
+
+    alignment_in : (o : Option ℕ) → Each (λ i j k. Ok (v.alignment_in i j k o))
+    alignment_in None = same _
+    alignment_in (Some s) = at (scopes.alignment s) (λ n. same (Ok (unmarked (2 ^ n))))
+
+    address_in : {f g : ℕ → Result ℕ Fault} → ((s : ℕ) → R ℕ (f s) (g s)) → (name : Name) (o : Option ℕ) → R Value (v.address_in a.scope a.statement a.known f name o) (v.address_in b.scope b.statement b.known g name o)
+    address_in h name None = same _
+    address_in h name (Some s) = on (h s) (λ n. same _)
+
+    named_value : (q : Question) (name : Name) → Each (λ i j k. v.named_value i j k q name)
+    unfolding v.size v.alignment v.start_named v.load_named v.defined_value
+    named_value question.Sizeof name = at (scopes.«section» name) size_in
+    named_value question.Alignof name = at (scopes.«section» name) alignment_in
+    named_value question.Addr name = at (scopes.«section» name) (address_in start name)
+    named_value question.Loadaddr name = at (scopes.«section» name) (address_in load name)
+    named_value question.Defined name = at (scopes.defined name) (λ d. same (Ok (unmarked (truth d))))
+    named_value q name = fails Unsupported
+
+    symbol_value_in : (name : Name) (w : Whole) (s t : Option ℕ) → Each (λ i j k. v.symbol_value_in i j k name w s t)
+    unfolding v.from_start
+    symbol_value_in name w (Some s) (Some t) = choose (s == t) (on (start s) (λ n. same _)) (same _)
+    symbol_value_in name w (Some s) None = same _
+    symbol_value_in name w None t = same _
+
+    -- ---- nodes
+
+    module _ (f g : Evaluator) (path other : List Name) where
+      -- of what each side answers by this, over its values of parts and its path
+      abbrev EachNode : {A : Type 0} → (Scope → ℕ → Known → Evaluator → List Name → Result A Fault) → Type 0
+      EachNode {A} w = R A (w a.scope a.statement a.known f path) (w b.scope b.statement b.known g other)
+
+      -- a definition, and a symbol that has it, where this holds of its expression
+      module _ (name : Name) (parts : (e : Expression) (p : Point) → R Value (f (name ∷ path) e p) (g (name ∷ other) e p)) where
+        pub whole_related : (d : Definition) → EachNode (λ i j k f path. v.whole i j k f path (name ∷ path) name d)
+        unfolding v.row_whole v.row_of v.value_whole
+        whole_related (OfRow row offset s) = on (asked (Address row) name) (λ n. same _)
+        whole_related (OfScript e p) = on (parts e p) (λ x. on (full_number p x) (λ n. same _))
+
+        symbol_in : (o : Option Definition) → ((d : Definition) → o ≡ Some d → v.is_on name path ≡ v.is_on name other) → (p : Point) → EachNode (λ i j k f path. v.symbol_in i j k f path name o p)
+        unfolding v.symbol_by v.symbol_value
+        symbol_in None along p = same _
+        symbol_in (Some d) along p = at (along d refl) (λ t. choose t (same (Err (SymbolCycle name))) (on (whole_related d) (λ w. symbol_value_in name w (home d) p.«section»)))
+
+        pub symbol_related : definition_of a.scope name ≡ definition_of b.scope name → Along a.scope path other → (p : Point) → EachNode (λ i j k f path. v.symbol i j k f path name p)
+        unfolding v.symbol
+        symbol_related e along p = subst (λ (o : Option Definition). R Value (v.symbol_in a.scope a.statement a.known f path name (definition_of a.scope name) p) (v.symbol_in b.scope b.statement b.known g other name o p)) e (symbol_in (definition_of a.scope name) (along name) p)
+
+      module _ (parts : (e : Expression) (p : Point) → R Value (f path e p) (g other e p)) where
+        arithmetic_value : (o : Arithmetic) (x y : Expression) (p : Point) → EachNode (λ i j k f path. v.arithmetic_value i j k f path o x y p)
+        unfolding v.arithmetic_value
+        arithmetic_value o x y p = on (parts x p) (λ n. on (parts y p) (λ m. same _))
+
+        division_value : (o : Division) (x y : Expression) (p : Point) → EachNode (λ i j k f path. v.division_value i j k f path o x y p)
+        unfolding v.division_value
+        division_value o x y p = on (parts y p) (λ m. choose (m.number == 0) (fails (v.zero_divisor o)) (on (parts x p) (λ n. same _)))
+
+        comparison_value : (o : Comparison) (x y : Expression) (p : Point) → EachNode (λ i j k f path. v.comparison_value i j k f path o x y p)
+        unfolding v.comparison_value v.judgement
+        comparison_value o x y p = on (parts x p) (λ n. on (full_number p n) (λ left. on (parts y p) (λ m. on (full_number p m) (λ right. same _))))
+
+        connective_value : (o : Connective) (x y : Expression) (p : Point) → EachNode (λ i j k f path. v.connective_value i j k f path o x y p)
+        unfolding v.connective_value
+        connective_value o x y p = on (parts x p) (λ n. choose (decides o n.number) (same _) (on (parts y p) (λ m. same _)))
+
+        unary_value : (o : Unary) (x : Expression) (p : Point) → EachNode (λ i j k f path. v.unary_value i j k f path o x p)
+        unfolding v.unary_value
+        unary_value o x p = on (parts x p) (λ n. same _)
+
+        ternary_value : (t x y : Expression) (p : Point) → EachNode (λ i j k f path. v.ternary_value i j k f path t x y p)
+        unfolding v.ternary_value
+        ternary_value t x y p = on (parts t p) (λ n. on (parts (v.chosen_side n.number x y) p) (λ m. same _))
+
+        subject : (x : Option Expression) (p : Point) → EachNode (λ i j k f path. v.subject i j k f path x p)
+        unfolding v.counter_number
+        subject (Some x) p = parts x p
+        subject None p = on (counter p) (λ n. same _)
+
+        align_value : (n : Expression) (x : Option Expression) (p : Point) → EachNode (λ i j k f path. v.align_value i j k f path n x p)
+        unfolding v.align_value
+        align_value n x p = on (parts n p) (λ align. choose (align.number == 0) (fails AlignZero) (on (subject x p) (λ m. same _)))
+
+        assert_value : (t : Expression) (message : Name) (place : ℕ) (p : Point) → EachNode (λ i j k f path. v.assert_value i j k f path t message place p)
+        unfolding v.assert_value
+        assert_value t message place p = on (parts t p) (λ n. choose (n.number == 0) (at (scopes.line place) (λ m. same (Err (AssertFailed m message)))) (same (Ok (over n.number n))))
+
+        pub node_related : ((name : Name) (p : Point) → EachNode (λ i j k f path. v.symbol i j k f path name p)) → (p : Point) (s : Shape Expression) → EachNode (λ i j k f path. v.node i j k f path p s)
+        node_related symbols p (Number n) = same _
+        node_related symbols p LocationCounter = counter p
+        node_related symbols p SizeofHeaders = fails Unsupported
+        node_related symbols p (Symbol name) = symbols name p
+        node_related symbols p (Named q name) = named_value q name
+        node_related symbols p (Shape.Arithmetic o x y) = arithmetic_value o x y p
+        node_related symbols p (Shape.Division o x y) = division_value o x y p
+        node_related symbols p (Shape.Comparison o x y) = comparison_value o x y p
+        node_related symbols p (Shape.Connective o x y) = connective_value o x y p
+        node_related symbols p (Shape.Unary o x) = unary_value o x p
+        node_related symbols p (Ternary t x y) = ternary_value t x y p
+        node_related symbols p (Align n x) = align_value n x p
+        node_related symbols p (SegmentStart segment x) = fails Unsupported
+        node_related symbols p (Assert t message place) = assert_value t message place p
+
+    -- ---- values, where both sides have the same definitions
+
+    module _ (definitions : (name : Name) → definition_of a.scope name ≡ definition_of b.scope name) where
+      longer : (name : Name) (path other : List Name) → Along a.scope path other → Along a.scope (name ∷ path) (name ∷ other)
+      longer name path other along x d e = rw (along x d e)
+
+      pub value_related : (levels : ℕ) (path other : List Name) → Along a.scope path other → (e : Expression) (p : Point) → R Value (v.value a.scope a.statement a.known levels path e p) (v.value b.scope b.statement b.known levels other e p)
+      unfolding v.value
+      value_related zero path other along e p = fails DeepValue
+      value_related (suc h) path other along e p =
+          node_related (v.value a.scope a.statement a.known h) (v.value b.scope b.statement b.known h) path other (value_related h path other along)
+            (λ name q. symbol_related _ _ path other name (value_related h (name ∷ path) (name ∷ other) (longer name path other along)) (definitions name) along q)
+            p (shape e)
+
+      pub full_related : (levels : ℕ) (path other : List Name) → Along a.scope path other → (e : Expression) (p : Point) → R ℕ (v.full a.scope a.statement a.known levels path e p) (v.full b.scope b.statement b.known levels other e p)
+      unfolding v.full
+      full_related levels path other along e p = on (value_related levels path other along e p) (λ x. full_number p x)
