@@ -1,3 +1,3 @@
-pub mod Anywhere
 pub mod Related
 pub mod Stable
+pub mod Statements

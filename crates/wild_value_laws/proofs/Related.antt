@@ -22,7 +22,7 @@ use Rattle.wild_value_spec.specs.Marks.{unmarked, over}
 use Rattle.wild_value_spec.specs.Numbers.{decides, truth}
 use Rattle.wild_value_spec.specs.Scope.{Name, Definition, OfRow, OfScript, Scope, definition_of, home}
 use Rattle.wild_value_spec.specs.Value as v
-use Rattle.wild_value_laws.specs.Related.{Relation, Passes, Side, Agree, Leaves, Along}
+use Rattle.wild_value_laws.specs.Related.{Relation, Passes, Side, Agree, Leaves, SameNames}
 
 -- what gives the values of parts
 abbrev Evaluator : Type 0
@@ -30,40 +30,40 @@ Evaluator = List Name → Expression → Point → Result Value Fault
 
 -- a scope agrees with itself
 pub itself : (scope : Scope) → Agree scope scope
-itself scope = record { section_name = λ s. refl; «section» = λ name. refl; alignment = λ s. refl; line = λ at. refl; defined = λ name. refl }
+itself scope = record { section_name = λ s. refl; «section» = λ name. refl; alignment = λ s. refl; line = λ place. refl; defined = λ name. refl }
 
 module _ (R : Relation) (passes : Passes R) where
   open passes use {same, on}
 
-  -- of two choices by one test
+  -- between two choices by one test
   choose : {A : Type 0} (t : Bool) {r s u w : Result A Fault} → R A r s → R A u w → R A (cond t r u) (cond t s w)
   choose true h k = h
   choose false h k = k
 
-  -- of what both make of equal things
-  at : {X A : Type 0} {x y : X} {f g : X → Result A Fault} → x ≡ y → ((z : X) → R A (f z) (g z)) → R A (f x) (g y)
-  at {x} {f} {g} e h = subst (λ z. R _ (f x) (g z)) e (h x)
+  -- between what both make of equal things
+  at_equal : {X A : Type 0} {x y : X} {f g : X → Result A Fault} → x ≡ y → ((z : X) → R A (f z) (g z)) → R A (f x) (g y)
+  at_equal {x} {f} {g} e h = subst (λ z. R _ (f x) (g z)) e (h x)
 
   module _ (a b : Side) (leaves : Leaves R a b) where
     open leaves use {asked, fails, scopes}
 
-    -- of what each side answers by this
+    -- between what a word gives over the scope, the statement and the known numbers of each side
     abbrev Each : {A : Type 0} → (Scope → ℕ → Known → Result A Fault) → Type 0
-    Each {A} w = R A (w a.scope a.statement a.known) (w b.scope b.statement b.known)
+    Each {A} word = R A (word a.scope a.statement a.known) (word b.scope b.statement b.known)
 
     -- ---- what is known
 
     start : (s : ℕ) → Each (λ i j k. v.start_of i j k s)
     unfolding v.start_of
-    start s = at (scopes.section_name s) (asked (Start s))
+    start s = at_equal (scopes.section_name s) (asked (Start s))
 
     load : (s : ℕ) → Each (λ i j k. v.load_of i j k s)
     unfolding v.load_of
-    load s = at (scopes.section_name s) (asked (Load s))
+    load s = at_equal (scopes.section_name s) (asked (Load s))
 
     last : (s : ℕ) → Each (λ i j k. v.end_of i j k s)
     unfolding v.end_of
-    last s = at (scopes.section_name s) (asked (End s))
+    last s = at_equal (scopes.section_name s) (asked (End s))
 
     dot_by : (place : ℕ) (d : DotSource) → Each (λ i j k. v.dot_by i j k place d)
     dot_by place OfPlace = asked (Dot place) _
@@ -71,7 +71,7 @@ module _ (R : Relation) (passes : Passes R) where
     dot_by place Zero = same _
     dot_by place (OfEnd s) = last s
 
-    -- ---- full values and `.`
+    -- ---- full numbers and `.`
 
     full_number_in : (o : Option ℕ) (x : Value) → Each (λ i j k. v.full_number_in i j k o x)
     full_number_in None x = same _
@@ -89,7 +89,7 @@ module _ (R : Relation) (passes : Passes R) where
     unfolding v.counter v.dot_of
     counter p = on (dot_by p.place p.dot) (λ n. counter_in p.«section» n)
 
-    -- ---- sections and symbols
+    -- ---- what is asked of names
 
     size_in : (o : Option ℕ) → Each (λ i j k. v.size_in i j k o)
     unfolding v.extent
@@ -98,19 +98,23 @@ module _ (R : Relation) (passes : Passes R) where
 
     alignment_in : (o : Option ℕ) → Each (λ i j k. Ok (v.alignment_in i j k o))
     alignment_in None = same _
-    alignment_in (Some s) = at (scopes.alignment s) (λ n. same (Ok (unmarked (2 ^ n))))
+    alignment_in (Some s) = at_equal (scopes.alignment s) (λ n. same (Ok (unmarked (2 ^ n))))
 
-    address_in : {f g : ℕ → Result ℕ Fault} → ((s : ℕ) → R ℕ (f s) (g s)) → (name : Name) (o : Option ℕ) → R Value (v.address_in a.scope a.statement a.known f name o) (v.address_in b.scope b.statement b.known g name o)
-    address_in h name None = same _
-    address_in h name (Some s) = on (h s) (λ n. same _)
+    start_in : (name : Name) (o : Option ℕ) → Each (λ i j k. v.address_in i j k (v.start_of i j k) name o)
+    start_in name None = same _
+    start_in name (Some s) = on (start s) (λ n. same _)
+
+    load_in : (name : Name) (o : Option ℕ) → Each (λ i j k. v.address_in i j k (v.load_of i j k) name o)
+    load_in name None = same _
+    load_in name (Some s) = on (load s) (λ n. same _)
 
     named_value : (q : Question) (name : Name) → Each (λ i j k. v.named_value i j k q name)
     unfolding v.size v.alignment v.start_named v.load_named v.defined_value
-    named_value question.Sizeof name = at (scopes.«section» name) size_in
-    named_value question.Alignof name = at (scopes.«section» name) alignment_in
-    named_value question.Addr name = at (scopes.«section» name) (address_in start name)
-    named_value question.Loadaddr name = at (scopes.«section» name) (address_in load name)
-    named_value question.Defined name = at (scopes.defined name) (λ d. same (Ok (unmarked (truth d))))
+    named_value question.Sizeof name = at_equal (scopes.«section» name) size_in
+    named_value question.Alignof name = at_equal (scopes.«section» name) alignment_in
+    named_value question.Addr name = at_equal (scopes.«section» name) (start_in name)
+    named_value question.Loadaddr name = at_equal (scopes.«section» name) (load_in name)
+    named_value question.Defined name = at_equal (scopes.defined name) (λ d. same (Ok (unmarked (truth d))))
     named_value q name = fails Unsupported
 
     symbol_value_in : (name : Name) (w : Whole) (s t : Option ℕ) → Each (λ i j k. v.symbol_value_in i j k name w s t)
@@ -119,14 +123,14 @@ module _ (R : Relation) (passes : Passes R) where
     symbol_value_in name w (Some s) None = same _
     symbol_value_in name w None t = same _
 
-    -- ---- nodes
+    -- ---- nodes, where each side has its own path, and its own values of parts on it
 
     module _ (f g : Evaluator) (path other : List Name) where
-      -- of what each side answers by this, over its values of parts and its path
+      -- the same of a word over all that a node is read by
       abbrev EachNode : {A : Type 0} → (Scope → ℕ → Known → Evaluator → List Name → Result A Fault) → Type 0
-      EachNode {A} w = R A (w a.scope a.statement a.known f path) (w b.scope b.statement b.known g other)
+      EachNode {A} word = R A (word a.scope a.statement a.known f path) (word b.scope b.statement b.known g other)
 
-      -- a definition, and a symbol that has it, where this holds of its expression
+      -- a symbol, whose expression is read with its name on the path
       module _ (name : Name) (parts : (e : Expression) (p : Point) → R Value (f (name ∷ path) e p) (g (name ∷ other) e p)) where
         pub whole_related : (d : Definition) → EachNode (λ i j k f path. v.whole i j k f path (name ∷ path) name d)
         unfolding v.row_whole v.row_of v.value_whole
@@ -135,12 +139,13 @@ module _ (R : Relation) (passes : Passes R) where
 
         symbol_in : (o : Option Definition) → ((d : Definition) → o ≡ Some d → v.is_on name path ≡ v.is_on name other) → (p : Point) → EachNode (λ i j k f path. v.symbol_in i j k f path name o p)
         unfolding v.symbol_by v.symbol_value
-        symbol_in None along p = same _
-        symbol_in (Some d) along p = at (along d refl) (λ t. choose t (same (Err (SymbolCycle name))) (on (whole_related d) (λ w. symbol_value_in name w (home d) p.«section»)))
+        symbol_in None names p = same _
+        symbol_in (Some d) names p =
+            at_equal (names d refl) (λ t. choose t (same (Err (SymbolCycle name))) (on (whole_related d) (λ w. symbol_value_in name w (home d) p.«section»)))
 
-        pub symbol_related : definition_of a.scope name ≡ definition_of b.scope name → Along a.scope path other → (p : Point) → EachNode (λ i j k f path. v.symbol i j k f path name p)
+        pub symbol_related : definition_of a.scope name ≡ definition_of b.scope name → SameNames a.scope path other → (p : Point) → EachNode (λ i j k f path. v.symbol i j k f path name p)
         unfolding v.symbol
-        symbol_related e along p = subst (λ (o : Option Definition). R Value (v.symbol_in a.scope a.statement a.known f path name (definition_of a.scope name) p) (v.symbol_in b.scope b.statement b.known g other name o p)) e (symbol_in (definition_of a.scope name) (along name) p)
+        symbol_related e names p = rw (← e) (symbol_in (definition_of a.scope name) (names name) p)
 
       module _ (parts : (e : Expression) (p : Point) → R Value (f path e p) (g other e p)) where
         arithmetic_value : (o : Arithmetic) (x y : Expression) (p : Point) → EachNode (λ i j k f path. v.arithmetic_value i j k f path o x y p)
@@ -163,9 +168,9 @@ module _ (R : Relation) (passes : Passes R) where
         unfolding v.unary_value
         unary_value o x p = on (parts x p) (λ n. same _)
 
-        ternary_value : (t x y : Expression) (p : Point) → EachNode (λ i j k f path. v.ternary_value i j k f path t x y p)
+        ternary_value : (c x y : Expression) (p : Point) → EachNode (λ i j k f path. v.ternary_value i j k f path c x y p)
         unfolding v.ternary_value
-        ternary_value t x y p = on (parts t p) (λ n. on (parts (v.chosen_side n.number x y) p) (λ m. same _))
+        ternary_value c x y p = on (parts c p) (λ n. on (parts (v.chosen_side n.number x y) p) (λ m. same _))
 
         subject : (x : Option Expression) (p : Point) → EachNode (λ i j k f path. v.subject i j k f path x p)
         unfolding v.counter_number
@@ -176,14 +181,13 @@ module _ (R : Relation) (passes : Passes R) where
         unfolding v.align_value
         align_value n x p = on (parts n p) (λ align. choose (align.number == 0) (fails AlignZero) (on (subject x p) (λ m. same _)))
 
-        assert_value : (t : Expression) (message : Name) (place : ℕ) (p : Point) → EachNode (λ i j k f path. v.assert_value i j k f path t message place p)
+        assert_value : (c : Expression) (message : Name) (at : ℕ) (p : Point) → EachNode (λ i j k f path. v.assert_value i j k f path c message at p)
         unfolding v.assert_value
-        assert_value t message place p = on (parts t p) (λ n. choose (n.number == 0) (at (scopes.line place) (λ m. same (Err (AssertFailed m message)))) (same (Ok (over n.number n))))
+        assert_value c message at p = on (parts c p) (λ n. choose (n.number == 0) (at_equal (scopes.line at) (λ m. same (Err (AssertFailed m message)))) (same (Ok (over n.number n))))
 
         pub node_related : ((name : Name) (p : Point) → EachNode (λ i j k f path. v.symbol i j k f path name p)) → (p : Point) (s : Shape Expression) → EachNode (λ i j k f path. v.node i j k f path p s)
         node_related symbols p (Number n) = same _
         node_related symbols p LocationCounter = counter p
-        node_related symbols p SizeofHeaders = fails Unsupported
         node_related symbols p (Symbol name) = symbols name p
         node_related symbols p (Named q name) = named_value q name
         node_related symbols p (Shape.Arithmetic o x y) = arithmetic_value o x y p
@@ -191,25 +195,26 @@ module _ (R : Relation) (passes : Passes R) where
         node_related symbols p (Shape.Comparison o x y) = comparison_value o x y p
         node_related symbols p (Shape.Connective o x y) = connective_value o x y p
         node_related symbols p (Shape.Unary o x) = unary_value o x p
-        node_related symbols p (Ternary t x y) = ternary_value t x y p
+        node_related symbols p (Ternary c x y) = ternary_value c x y p
         node_related symbols p (Align n x) = align_value n x p
-        node_related symbols p (SegmentStart segment x) = fails Unsupported
-        node_related symbols p (Assert t message place) = assert_value t message place p
+        node_related symbols p (Assert c message at) = assert_value c message at p
+        node_related symbols p s = fails Unsupported
 
     -- ---- values, where both sides have the same definitions
 
     module _ (definitions : (name : Name) → definition_of a.scope name ≡ definition_of b.scope name) where
-      longer : (name : Name) (path other : List Name) → Along a.scope path other → Along a.scope (name ∷ path) (name ∷ other)
-      longer name path other along x d e = rw (along x d e)
+      longer : (name : Name) (path other : List Name) → SameNames a.scope path other → SameNames a.scope (name ∷ path) (name ∷ other)
+      longer name path other names x d e = rw (names x d e)
 
-      pub value_related : (levels : ℕ) (path other : List Name) → Along a.scope path other → (e : Expression) (p : Point) → R Value (v.value a.scope a.statement a.known levels path e p) (v.value b.scope b.statement b.known levels other e p)
+      pub value_related : (levels : ℕ) (path other : List Name) → SameNames a.scope path other → (e : Expression) (p : Point) → R Value (v.value a.scope a.statement a.known levels path e p) (v.value b.scope b.statement b.known levels other e p)
       unfolding v.value
-      value_related zero path other along e p = fails DeepValue
-      value_related (suc h) path other along e p =
-          node_related (v.value a.scope a.statement a.known h) (v.value b.scope b.statement b.known h) path other (value_related h path other along)
-            (λ name q. symbol_related _ _ path other name (value_related h (name ∷ path) (name ∷ other) (longer name path other along)) (definitions name) along q)
+      value_related zero path other names e p = fails DeepValue
+      value_related (suc h) path other names e p =
+          node_related _ _ path other
+            (value_related h path other names)
+            (λ name. symbol_related _ _ path other name (value_related h (name ∷ path) (name ∷ other) (longer name path other names)) (definitions name) names)
             p (shape e)
 
-      pub full_related : (levels : ℕ) (path other : List Name) → Along a.scope path other → (e : Expression) (p : Point) → R ℕ (v.full a.scope a.statement a.known levels path e p) (v.full b.scope b.statement b.known levels other e p)
+      pub full_related : (levels : ℕ) (path other : List Name) → SameNames a.scope path other → (e : Expression) (p : Point) → R ℕ (v.full a.scope a.statement a.known levels path e p) (v.full b.scope b.statement b.known levels other e p)
       unfolding v.full
-      full_related levels path other along e p = on (value_related levels path other along e p) (λ x. full_number p x)
+      full_related levels path other names e p = on (value_related levels path other names e p) (full_number p)

@@ -13,7 +13,7 @@ use Rattle.wild_value_spec.specs.Value.{is_on}
 abbrev pub Relation : Type 1
 Relation = (A : Type 0) → Result A Fault → Result A Fault → Type 0
 
--- it holds of equal answers, and goes on through a step
+-- it holds of an answer and itself, and goes on through a step
 pub record Passes (R : Relation) : Type 1 where
   pub same : {A : Type 0} (r : Result A Fault) → R A r r
   pub on : {A B : Type 0} {r s : Result A Fault} {f g : A → Result B Fault} → R A r s → ((x : A) → R B (f x) (g x)) → R B (r >>= f) (s >>= g)
@@ -32,7 +32,7 @@ pub record Agree (a b : Scope) : Type 0 where
   pub line : (at : ℕ) → a.line at ≡ b.line at
   pub defined : (name : Name) → is_some (definition_of a name) ≡ is_some (definition_of b name)
 
--- the relation holds of all that is answered without a part
+-- the relation holds of what is answered without a part of an expression
 pub record Leaves (R : Relation) (a b : Side) : Type 0 where
   -- what is asked of the layout
   pub asked : (x : Asked) (name : Name) → R ℕ (or_fault (a.known x) (NotLaidOut a.statement name)) (or_fault (b.known x) (NotLaidOut b.statement name))
@@ -41,5 +41,5 @@ pub record Leaves (R : Relation) (a b : Side) : Type 0 where
   pub scopes : Agree a.scope b.scope
 
 -- two paths hold the same of the names that have a definition
-abbrev pub Along : Scope → List Name → List Name → Type 0
-Along scope path other = (name : Name) (d : Definition) → definition_of scope name ≡ Some d → is_on name path ≡ is_on name other
+abbrev pub SameNames : Scope → List Name → List Name → Type 0
+SameNames scope path other = (name : Name) (d : Definition) → definition_of scope name ≡ Some d → is_on name path ≡ is_on name other

@@ -1,4 +1,4 @@
--- Answers that stay when more is known, or at another statement.
+-- Answers that stay when more is known.
 use Rattle.std.specs.Prelude.{◌≡◌, ◌⊎◌, Result, Ok, Err}
 use Rattle.wild_names.specs.declared.fault.Fault.{Fault}
 use Rattle.wild_names.specs.declared.fault.Fault.TheVariants.{NotLaidOut}
@@ -16,8 +16,3 @@ IsEarly (Err f) = IsEarlyFault f
 -- the other answer is the same, unless this one is early
 abbrev pub Stays : {A : Type 0} → Result A Fault → Result A Fault → Type 0
 Stays r s = IsEarly r ⊎ (r ≡ s)
-
--- the other answer is the same, unless this one is a fault
-abbrev pub StaysOk : {A : Type 0} → Result A Fault → Result A Fault → Type 0
-StaysOk (Ok x) s = s ≡ Ok x
-StaysOk (Err f) s = Unit {0}

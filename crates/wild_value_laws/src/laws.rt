@@ -23,13 +23,13 @@ pub fn full_values_stay()
 {}
 
 /// A value that is no fault does not depend on the statement: that is said in faults alone.
-pub fn values_hold_anywhere()
+pub fn values_hold_at_any_statement()
     ensures { (scope : Scope) (one other : ℕ) (known : Known) (levels : ℕ) (path : List Name) (e : Expression) (p : Point) (x : Value)
         → value scope one known levels path e p ≡ Ok x → value scope other known levels path e p ≡ Ok x }
 {}
 
 /// The same of the number that an expression stands for.
-pub fn full_values_hold_anywhere()
+pub fn full_values_hold_at_any_statement()
     ensures { (scope : Scope) (one other : ℕ) (known : Known) (levels : ℕ) (path : List Name) (e : Expression) (p : Point) (n : ℕ)
         → full scope one known levels path e p ≡ Ok n → full scope other known levels path e p ≡ Ok n }
 {}
