@@ -1,9 +1,9 @@
--- What goes on through steps, and holds of the leaves, holds of each kind of node, and so of values.
-use Rattle.std.proofs.Common.{◌≡◌, ℕ, zero, suc, Bool, true, false, ◌^◌, not, ◌||◌, ◌==◌, cond, List, ◌∷◌, Option, Some, None, Result, Ok, Err, refl, ap, subst}
+-- A relation that goes on through steps and holds of the leaves holds of each kind of node, and so of values.
+use Rattle.std.proofs.Common.{◌≡◌, ℕ, zero, suc, Bool, true, false, ◌^◌, not, ◌||◌, ◌==◌, cond, List, ◌∷◌, Option, Some, None, Result, Ok, Err, refl, subst}
 use Rattle.wild_names.specs.declared.fault.Fault.{Fault}
 use Rattle.wild_names.specs.declared.fault.Fault.TheVariants.{AlignZero, AssertFailed, DeepValue, SymbolCycle, Unsupported}
 use Rattle.wild_expression_tree.specs.declared.tree.Expression.{Expression}
-use Rattle.wild_expression_tree.specs.Shape.{Shape, Number, LocationCounter, SizeofHeaders, Symbol, Named, Ternary, Align, SegmentStart, Assert, shape}
+use Rattle.wild_expression_tree.specs.Shape.{Shape, Number, LocationCounter, Symbol, Named, Ternary, Align, Assert, shape}
 use Rattle.wild_expression_tree.specs.declared.operator.Arithmetic.{Arithmetic}
 use Rattle.wild_expression_tree.specs.declared.operator.Comparison.{Comparison}
 use Rattle.wild_expression_tree.specs.declared.operator.Connective.{Connective}
@@ -16,7 +16,6 @@ use Rattle.wild_value_spec.specs.declared.value.DotSource.TheVariants.{OfPlace, 
 use Rattle.wild_value_spec.specs.declared.value.Point.{Point}
 use Rattle.wild_value_spec.specs.declared.value.Value.{Value}
 use Rattle.wild_value_spec.specs.declared.value.Whole.{Whole}
-use Rattle.wild_value_spec.specs.Answer.{◌>>=◌}
 use Rattle.wild_value_spec.specs.Known.{Known, Start, Load, End, Address, Dot, LoadDot}
 use Rattle.wild_value_spec.specs.Marks.{unmarked, over}
 use Rattle.wild_value_spec.specs.Numbers.{decides, truth}
@@ -47,7 +46,7 @@ module _ (R : Relation) (passes : Passes R) where
   module _ (a b : Side) (leaves : Leaves R a b) where
     open leaves use {asked, fails, scopes}
 
-    -- between what a word gives over the scope, the statement and the known numbers of each side
+    -- between what a word gives on each side, over its scope, its statement and what it knows: i, j and k
     abbrev Each : {A : Type 0} → (Scope → ℕ → Known → Result A Fault) → Type 0
     Each {A} word = R A (word a.scope a.statement a.known) (word b.scope b.statement b.known)
 
@@ -126,7 +125,7 @@ module _ (R : Relation) (passes : Passes R) where
     -- ---- nodes, where each side has its own path, and its own values of parts on it
 
     module _ (f g : Evaluator) (path other : List Name) where
-      -- the same of a word over all that a node is read by
+      -- the same of a word over values of parts and a path, too
       abbrev EachNode : {A : Type 0} → (Scope → ℕ → Known → Evaluator → List Name → Result A Fault) → Type 0
       EachNode {A} word = R A (word a.scope a.statement a.known f path) (word b.scope b.statement b.known g other)
 
@@ -211,9 +210,9 @@ module _ (R : Relation) (passes : Passes R) where
       value_related zero path other names e p = fails DeepValue
       value_related (suc h) path other names e p =
           node_related _ _ path other
-            (value_related h path other names)
-            (λ name. symbol_related _ _ path other name (value_related h (name ∷ path) (name ∷ other) (longer name path other names)) (definitions name) names)
-            p (shape e)
+          (value_related h path other names)
+          (λ name. symbol_related _ _ path other name (value_related h (name ∷ path) (name ∷ other) (longer name path other names)) (definitions name) names)
+          p (shape e)
 
       pub full_related : (levels : ℕ) (path other : List Name) → SameNames a.scope path other → (e : Expression) (p : Point) → R ℕ (v.full a.scope a.statement a.known levels path e p) (v.full b.scope b.statement b.known levels other e p)
       unfolding v.full

@@ -1,5 +1,5 @@
--- What is to be shown of two sides, so that it holds of each value as both read it.
-use Rattle.std.specs.Prelude.{◌≡◌, ℕ, List, Option, Some, Result, Err}
+-- What a relation between two sides has to meet, so that it holds between the values that both read.
+use Rattle.std.specs.Prelude.{◌≡◌, ℕ, List, Some, Result, Err}
 use Rattle.std.specs.Option.{is_some}
 use Rattle.wild_names.specs.declared.fault.Fault.{Fault}
 use Rattle.wild_names.specs.declared.fault.Fault.TheVariants.{NotLaidOut}

@@ -22,7 +22,7 @@ pub fn full_values_stay()
         → Stays (full scope statement known levels path e p) (full scope statement more levels path e p) }
 {}
 
-/// A value that is no fault does not depend on the statement: that is said in faults alone.
+/// A value that is no fault is the same at any statement, which is said in faults alone.
 pub fn values_hold_at_any_statement()
     ensures { (scope : Scope) (one other : ℕ) (known : Known) (levels : ℕ) (path : List Name) (e : Expression) (p : Point) (x : Value)
         → value scope one known levels path e p ≡ Ok x → value scope other known levels path e p ≡ Ok x }
