@@ -4,16 +4,14 @@ use Rattle.std.specs.Prelude.{slice_get}
 use Rattle.std.specs.List.{find}
 use Rattle.std.specs.Option.{option_map}
 use Rattle.std.proofs.lemmas.Bool.{leb-true}
-use Rattle.wild_script.specs.Tree.{Bytes}
-use Rattle.wild_script.specs.declared.tree.LinkerScript.{LinkerScript}
 use Rattle.wild_value_spec.specs.Known.{Address}
 use Rattle.wild_plan_spec.specs.declared.row.InputRow.{InputRow}
-use Rattle.wild_plan_spec.specs.declared.row.InputTable.{InputTable}
 use Rattle.wild_plan_spec.specs.declared.row.SymbolRow.{SymbolRow}
-use Rattle.wild_plan_spec.specs.Checks.{Check, row_checks, holds_offset, symbol_checks, checks, failing}
+use Rattle.wild_plan_spec.specs.Case.{Case}
+use Rattle.wild_plan_spec.specs.Checks.{Check, row_checks, holds_offset, symbol_checks, table_checks, checks, failing}
 use Rattle.wild_plan_spec.specs.Fit.{IsLaid}
 use Rattle.wild_plan_spec.specs.Steps.{State}
-use Rattle.wild_plan_laws.proofs.Standing.{rows_stand_in_place}
+use Rattle.wild_walk_laws.proofs.Standing.{rows_stand_in_place}
 
 -- ---- checks
 
@@ -49,16 +47,13 @@ within_row : (o : Option InputRow) (offset : ℕ) → holds_offset o offset ≡ 
 within_row None offset e = absurd (cc)
 within_row (Some row) offset e = (row, refl, leb-true offset row.size e)
 
-second_hold : (xs ys us vs ws : List Check) → AllHold (xs ++ ys ++ us ++ vs ++ ws) → AllHold ys
-second_hold xs ys us vs ws all = others_hold xs ys (first_hold (xs ++ ys) us (first_hold (xs ++ ys ++ us) vs (first_hold (xs ++ ys ++ us ++ vs) ws all)))
+symbols_hold : (c : Case) → failing (checks c) ≡ None → AllHold (symbol_checks c.inputs.rows 0 c.inputs.symbols)
+symbols_hold c sound = others_hold (row_checks 0 c.inputs.rows) (symbol_checks c.inputs.rows 0 c.inputs.symbols) (first_hold (table_checks c.inputs) _ (all_hold (checks c) sound))
 
-symbols_hold : (t : LinkerScript) (inputs : InputTable) → failing (checks t inputs) ≡ None → AllHold (symbol_checks inputs.rows 0 inputs.symbols)
-symbols_hold t inputs sound = second_hold (row_checks 0 inputs.rows) (symbol_checks inputs.rows 0 inputs.symbols) _ _ _ (all_hold (checks t inputs) sound)
-
-pub symbols_stand_in_rows : (script : Bytes) (t : LinkerScript) (inputs : InputTable) (state : State) → IsLaid script t inputs state
-    → (i : ℕ) (s : SymbolRow) → slice_get inputs.symbols i ≡ Some s → (a : ℕ) → state.known (Address s.row) ≡ Some a → a + s.offset < 2 ^ 64
-symbols_stand_in_rows script t inputs state f i s there a known =
-    let found = within_row (slice_get inputs.rows s.row) s.offset (symbol_holds inputs.rows 0 inputs.symbols i s (symbols_hold t inputs f.sound) there) in
-    let row_ends = (rows_stand_in_place script t inputs state f s.row found.0 a found.1 known).ends in
+pub symbols_stand_in_rows : (c : Case) (state : State) → IsLaid c state
+    → (i : ℕ) (s : SymbolRow) → slice_get c.inputs.symbols i ≡ Some s → (a : ℕ) → state.known (Address s.row) ≡ Some a → a + s.offset < 2 ^ 64
+symbols_stand_in_rows c state f i s there a known =
+    let found = within_row (slice_get c.inputs.rows s.row) s.offset (symbol_holds c.inputs.rows 0 c.inputs.symbols i s (symbols_hold c f.sound) there) in
+    let row_ends = (rows_stand_in_place c state f s.row found.0 a found.1 known).ends in
     let small = found.2 in
     omega (arith, row_ends, small)

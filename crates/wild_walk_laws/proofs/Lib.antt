@@ -1,0 +1,9 @@
+pub mod Having
+pub mod Entries
+pub mod Steps
+pub mod Growing
+pub mod Nesting
+pub mod Walked
+pub mod Chunked
+pub mod Standing
+pub mod Offsets

@@ -1,0 +1,42 @@
+//! Laws about places, and about layouts of all of them.
+
+ghost use Rattle.std.specs.Prelude.{◌≡◌, ℕ, ◌+◌, ◌^◌, ◌<◌, Some, length, slice_get};
+ghost use Rattle.wild_expression_tree.specs.declared.tree.Expression.{Expression};
+ghost use Rattle.wild_plan_spec.specs.declared.row.InputTable.{InputTable};
+ghost use Rattle.wild_plan_spec.specs.declared.row.SymbolRow.{SymbolRow};
+ghost use Rattle.wild_plan_spec.specs.Case.{Case};
+ghost use Rattle.wild_plan_spec.specs.Fates.{section_names};
+ghost use Rattle.wild_plan_spec.specs.Fit.{IsLaid};
+ghost use Rattle.wild_plan_spec.specs.Orphans.{places_of};
+ghost use Rattle.wild_plan_spec.specs.Places.{SetLocation};
+ghost use Rattle.wild_plan_spec.specs.Steps.{State};
+ghost use Rattle.wild_script.specs.declared.tree.LinkerScript.{LinkerScript};
+ghost use Rattle.wild_value_spec.specs.Known.{Address};
+ghost use Rattle.wild_walk_laws.specs.Holding.{LaidLocationHolds, StandInPlace};
+ghost use Rattle.wild_walk_laws.specs.Nesting.{Free, Nests};
+
+/// The places of a script and its orphans open and close all sections in the order of their numbers, one after the
+/// other, and the rows of a chunk stand in its section.
+pub fn places_nest()
+    ensures { (t : LinkerScript) (inputs : InputTable) → Nests (Free 0) (places_of t inputs) (Free (length (section_names t inputs))) }
+{}
+
+/// Where all places are laid out, each statement of the location counter in SECTIONS is listed with the value that its
+/// expression has over the finished layout.
+pub fn locations_hold()
+    ensures { (c : Case) (state : State) → IsLaid c state
+        → (i : ℕ) (e : Expression) → slice_get (places_of c.tree c.inputs) i ≡ Some (SetLocation e) → LaidLocationHolds c state i e }
+{}
+
+/// Where all places are laid out, each row whose address is known stands at a multiple of its alignment and ends below
+/// 2 ^ 64.
+pub fn rows_stand_in_place()
+    ensures { (c : Case) (state : State) → IsLaid c state → StandInPlace c.inputs.rows state.known }
+{}
+
+/// Where all places are laid out, the address of a symbol of the table does not wrap: that of its row, where it is known, and
+/// the symbol's offset have a sum below 2 ^ 64.
+pub fn symbols_stand_in_rows()
+    ensures { (c : Case) (state : State) → IsLaid c state
+        → (i : ℕ) (s : SymbolRow) → slice_get c.inputs.symbols i ≡ Some s → (a : ℕ) → state.known (Address s.row) ≡ Some a → a + s.offset < 2 ^ 64 }
+{}

@@ -1,0 +1,6 @@
+//! What holds of walks over the places of a case: where places stand, and what is known once all of them are laid out.
+#![tactic(auto)]
+
+mod laws;
+
+pub use laws::{locations_hold, places_nest, rows_stand_in_place, symbols_stand_in_rows};
