@@ -1,84 +1,88 @@
--- Sections and rows lie apart from each other.
-use Rattle.std.proofs.Common.{◌≡◌, ◌∙◌, ℕ, zero, suc, ◌+◌, ◌<◌, List, [], ◌∷◌, length, Option, Some, sym, ap, subst, ⊎_elim, arith}
+-- Sections and rows lie apart from each other, and all that may be asked is known.
+use Rattle.std.proofs.Common.{◌≡◌, ◌∙◌, ℕ, suc, ◌+◌, ◌<◌, List, [], length, Option, Some, None, refl, sym, ap, subst, ⊎_elim, arith}
 use Rattle.std.specs.Prelude.{slice_get}
-use Rattle.std.specs.Option.{unwrap_or}
+use Rattle.std.specs.Option.{option_map, unwrap_or}
 use Rattle.std.proofs.lemmas.Bool.{cases_lt}
-use Rattle.std.proofs.lemmas.Option.{slice_get_within}
-use Rattle.wild_script.specs.Tree.{Bytes}
-use Rattle.wild_script.specs.declared.tree.LinkerScript.{LinkerScript}
-use Rattle.wild_value_spec.specs.Known.{Start, Address}
+use Rattle.std.proofs.lemmas.Option.{slice_get_within, slice_get_cases}
+use Rattle.wild_value_spec.specs.Known.{Start, Load, End, Address, Dot}
 use Rattle.wild_plan_spec.specs.declared.chunk.Kept.{Kept}
 use Rattle.wild_plan_spec.specs.declared.row.InputRow.{InputRow}
-use Rattle.wild_plan_spec.specs.declared.row.InputTable.{InputTable}
+use Rattle.wild_plan_spec.specs.Case.{Case}
 use Rattle.wild_plan_spec.specs.Chunks.{largest_alignment, section_rows}
+use Rattle.wild_plan_spec.specs.Facts.{Facts, section_facts, facts_from, facts_of, facts_at}
 use Rattle.wild_plan_spec.specs.Fates.{fates_of, section_names}
 use Rattle.wild_plan_spec.specs.Fit.{IsLaid}
-use Rattle.wild_plan_spec.specs.Steps.{State}
+use Rattle.wild_plan_spec.specs.Ground.{ground_of}
 use Rattle.wild_plan_spec.specs.Names.{Name}
-use Rattle.wild_plan_spec.specs.Scopes.{alignments_of, scope_of}
-use Rattle.wild_plan_laws.specs.Holding.{LiesIn, RowHolds, SectionHolds, LaidSectionStands}
-use Rattle.wild_plan_laws.proofs.Chunked.{chunk_rows}
-use Rattle.wild_plan_laws.proofs.Laid.{GoesTo, After, Amid, nothing_after, after_alike, opens_amid, chunk_amid, ends_after, not_both}
-use Rattle.wild_plan_laws.proofs.Walked.{walked}
+use Rattle.wild_plan_spec.specs.Orphans.{places_of}
+use Rattle.wild_plan_spec.specs.Places.{Place}
+use Rattle.wild_plan_spec.specs.Steps.{State}
+use Rattle.wild_walk_laws.specs.Holding.{IsKnown}
+use Rattle.wild_walk_laws.proofs.Chunked.{chunk_rows}
+use Rattle.wild_walk_laws.proofs.Entries.{not_both}
+use Rattle.wild_walk_laws.proofs.Growing.{dot_known, to_end}
+use Rattle.wild_walk_laws.proofs.Walked.{laid_walked}
+use Rattle.wild_plan_laws.specs.Holding.{LiesIn, RowHolds, SectionHolds, LaidSectionStands, AllIsKnown}
+use Rattle.wild_plan_laws.proofs.Kept.{kept_rows_have_addresses}
+use Rattle.wild_plan_laws.proofs.Laid.{GoesTo, goes_to, goes_to_one, After, Stands, nothing_after, stands_passes}
+use Rattle.wild_plan_laws.proofs.Numbered.{each_at}
 
--- the first section of the list has the number s
-alignment_at : (rows : List InputRow) (fates : List (Option Kept)) (s : ℕ) (names : List Name) (i : ℕ) (name : Name)
-    → slice_get names i ≡ Some name → unwrap_or (slice_get (alignments_of rows fates s names) i) 0 ≡ largest_alignment (section_rows (s + i) rows fates)
-alignment_at rows fates s [] i name e = absurd (cc)
-alignment_at rows fates s (x ∷ xs) zero name e = let z : s ≡ s + 0 = omega arith in ap (λ (n : ℕ). largest_alignment (section_rows n rows fates)) z
-alignment_at rows fates s (x ∷ xs) (suc i) name e = let z : s + 1 + i ≡ s + suc i = omega arith in alignment_at rows fates (s + 1) xs i name e ∙ ap (λ (n : ℕ). largest_alignment (section_rows n rows fates)) z
+module _ (c : Case) where
+  abbrev pub fates : List (Option Kept)
+  fates = fates_of c.tree c.inputs
 
-module _ (script : Bytes) (t : LinkerScript) (inputs : InputTable) (state : State) (f : IsLaid script t inputs state) where
-  abbrev fates : List (Option Kept)
-  fates = fates_of t inputs
+  abbrev pub names : List Name
+  names = section_names c.tree c.inputs
 
+  -- what is said of the section of a name
+  abbrev pub facts_named : ℕ → Name → Facts
+  facts_named s x = section_facts x (section_rows s c.inputs.rows fates)
+
+  pub facts_are : (s : ℕ) → slice_get (facts_of c.tree c.inputs) s ≡ option_map (facts_named s) (slice_get names s)
+  facts_are s = each_at facts_named (λ n xs. facts_from c.inputs.rows fates n xs) (λ n. refl) (λ n x xs. refl) names s
+
+  alignment_is : (s : ℕ) (x : Name) → slice_get names s ≡ Some x → (facts_at (facts_of c.tree c.inputs) s).alignment ≡ largest_alignment (section_rows s c.inputs.rows fates)
+  alignment_is s x there = ap (λ (o : Option Facts). (unwrap_or o (section_facts [] [])).alignment) (facts_are s ∙ ap (option_map (facts_named s)) there)
+
+module _ (c : Case) (state : State) (f : IsLaid c state) where
   -- what holds after all sections
-  all_after : After (scope_of script t inputs) inputs.rows fates (length (section_names t inputs)) state.known
+  all_after : After (λ s. (facts_at (facts_of c.tree c.inputs) s).alignment) c.inputs.rows (fates c) (length (names c)) state.known
   all_after =
-      let scope = scope_of script t inputs in
-      walked scope f.order (After scope inputs.rows fates) (Amid scope inputs.rows fates)
-      (after_alike scope inputs.rows fates)
-      (opens_amid scope inputs.rows fates)
-      (λ q st next h e. chunk_amid scope inputs.rows fates q (f.order q) st next (chunk_rows inputs.rows fates q (f.order q) (f.ordered q)) h e)
-      (ends_after scope inputs.rows fates)
-      t inputs state f.stands (nothing_after scope inputs.rows fates)
+      let alignment = λ (s : ℕ). (facts_at (facts_of c.tree c.inputs) s).alignment in
+      laid_walked c state f (Stands alignment c.inputs.rows (fates c))
+      (stands_passes (ground_of c f.order) c.inputs.rows (fates c) (λ q. chunk_rows c.inputs.rows (fates c) q (f.order q) (f.ordered q)))
+      (nothing_after alignment c.inputs.rows (fates c))
 
-  pub sections_stand : (s : ℕ) (name : Name) → slice_get (section_names t inputs) s ≡ Some name → LaidSectionStands state.known s (largest_alignment (section_rows s inputs.rows fates))
-  sections_stand s name there =
-      let low = slice_get_within (section_names t inputs) s name there in
-      let z : 0 + s ≡ s = omega arith in
-      let alignment = alignment_at inputs.rows fates 0 (section_names t inputs) s name there ∙ ap (λ (n : ℕ). largest_alignment (section_rows n inputs.rows fates)) z in
-      subst (LaidSectionStands state.known s) alignment (all_after.stand s low)
+  pub sections_stand : (s : ℕ) (name : Name) → slice_get (names c) s ≡ Some name → LaidSectionStands state.known s (largest_alignment (section_rows s c.inputs.rows (fates c)))
+  sections_stand s name there = subst (LaidSectionStands state.known s) (alignment_is c s name there) (all_after.sections.stand s (slice_get_within (names c) s name there))
 
-  pub rows_lie_in_sections : (r : ℕ) (row : InputRow) (k : Kept) → slice_get inputs.rows r ≡ Some row → slice_get fates r ≡ Some (Some k) → (a : ℕ) → state.known (Address r) ≡ Some a → LiesIn state.known k.chunk.«section» a row.size
+  pub rows_lie_in_sections : (r : ℕ) (row : InputRow) (k : Kept) → slice_get c.inputs.rows r ≡ Some row → slice_get (fates c) r ≡ Some (Some k) → (a : ℕ) → state.known (Address r) ≡ Some a → LiesIn state.known k.chunk.«section» a row.size
   rows_lie_in_sections r row k there fate a known =
-      let found = all_after.lie r a known in
+      let found = ⊎_elim (λ l. l) (λ l. absurd l) (all_after.within.lie r a known) in
       let lies = found.lies in
       let rows : Some lies.row ≡ Some row = sym lies.there ∙ there in
       let same : lies.row ≡ row = cc in
-      let kept : Some (Some lies.goes.kept) ≡ Some (Some k) = sym lies.goes.fate ∙ fate in
-      let alike : lies.goes.kept ≡ k = cc in
-      let own : found.number ≡ k.chunk.«section» = sym lies.goes.own ∙ ap (λ (kept : Kept). kept.chunk.«section») alike in
+      let own : found.number ≡ k.chunk.«section» = goes_to_one c.inputs.rows (fates c) r found.number k.chunk.«section» lies.goes (goes_to c.inputs.rows (fates c) r k fate) in
       let size = ap (λ (row : InputRow). row.size) same in
       let to = lies.to in
       subst (λ (s : ℕ). LiesIn state.known s a row.size) own (record { start = found.start; end = found.end; spans = found.spans; from = lies.from; to = omega (arith, to, size) })
 
   -- a section that starts is one of those that stand
-  pub starts_below : (s n : ℕ) → state.known (Start s) ≡ Some n → s < length (section_names t inputs)
-  starts_below s n e = ⊎_elim (λ lt. lt) (λ le. absurd (not_both (state.known (Start s)) n (all_after.fresh s le).starts e)) (cases_lt s (length (section_names t inputs)))
+  pub starts_below : (s n : ℕ) → state.known (Start s) ≡ Some n → s < length (names c)
+  starts_below s n e = ⊎_elim (λ lt. lt) (λ le. absurd (not_both (state.known (Start s)) n (all_after.fresh (Start s) le) e)) (cases_lt s (length (names c)))
 
   pub sections_do_not_overlap : (s u x : ℕ) → SectionHolds state.known s x → SectionHolds state.known u x → s ≡ u
-  sections_do_not_overlap s u x one other = all_after.sections_apart s u x (starts_below s one.start one.spans.starts) (starts_below u other.start other.spans.starts) one other
+  sections_do_not_overlap s u x one other = all_after.sections.apart s u x (starts_below s one.start one.spans.starts) (starts_below u other.start other.spans.starts) one other
 
   -- the section of a row holds what the row holds
   record Within (r x : ℕ) : Type 0 where
     number : ℕ
-    goes : GoesTo (scope_of script t inputs) inputs.rows fates r number
+    goes : GoesTo c.inputs.rows (fates c) r number
     holds : SectionHolds state.known number x
 
-  within : (r x : ℕ) → RowHolds inputs.rows state.known r x → Within r x
+  within : (r x : ℕ) → RowHolds c.inputs.rows state.known r x → Within r x
   within r x h =
-      let found = all_after.lie r h.address h.placed in
+      let found = ⊎_elim (λ l. l) (λ l. absurd l) (all_after.within.lie r h.address h.placed) in
       let lies = found.lies in
       let rows : Some lies.row ≡ Some h.row = sym lies.there ∙ h.there in
       let same : lies.row ≡ h.row = cc in
@@ -89,9 +93,28 @@ module _ (script : Bytes) (t : LinkerScript) (inputs : InputTable) (state : Stat
       let to = h.to in
       record { number = found.number; goes = lies.goes; holds = record { start = found.start; end = found.end; spans = found.spans; from = omega (arith, low, from); to = omega (arith, high, to, size) } }
 
-  pub rows_do_not_overlap : (p r x : ℕ) → RowHolds inputs.rows state.known p x → RowHolds inputs.rows state.known r x → p ≡ r
+  pub rows_do_not_overlap : (p r x : ℕ) → RowHolds c.inputs.rows state.known p x → RowHolds c.inputs.rows state.known r x → p ≡ r
   rows_do_not_overlap p r x one other =
       let first = within p x one in
       let second = within r x other in
       let same = sections_do_not_overlap first.number second.number x first.holds second.holds in
-      all_after.rows_apart second.number p r x (subst (GoesTo (scope_of script t inputs) inputs.rows fates p) same first.goes) second.goes one other
+      all_after.within.apart second.number p r x (subst (GoesTo c.inputs.rows (fates c) p) same first.goes) second.goes one other
+
+  -- ---- all is known
+
+  dots_known : (i : ℕ) (p : Place) → slice_get (places_of c.tree c.inputs) i ≡ Some p → IsKnown state.known (Dot i)
+  dots_known i p there =
+      let places = places_of c.tree c.inputs in
+      let ground = ground_of c f.order in
+      let low : i < length places = slice_get_within places i p there in
+      let dot = dot_known ground i p (f.stands.before i) (f.stands.before (i + 1)) (f.stands.each i p low there) in
+      (dot.0, (to_end ground places (length places) state f.stands (i + 1) (omega (arith, low))).known (Dot i) dot.0 dot.1)
+
+  pub all_is_known : AllIsKnown c state.known
+  all_is_known = record {
+    starts = λ s low. let h = all_after.sections.stand s low in (h.start, h.spans.starts);
+    loads = λ s low. let h = all_after.sections.stand s low in (h.start, h.loaded);
+    ends = λ s low. let h = all_after.sections.stand s low in (h.end, h.spans.ends);
+    addresses = kept_rows_have_addresses c state f;
+    dots = dots_known;
+  }

@@ -1,7 +1,6 @@
 -- Each chunk that a row goes to has a place that lays out its rows.
-use Rattle.std.proofs.Common.{◌≡◌, ℕ, zero, suc, ◌+◌, ◌<◌, ◌≤◌, Bool, true, false, cond, List, [], ◌∷◌, ◌++◌, length, Option, Some, None, Result, Ok, Err, refl, ap, subst, inl, inr, ⊎_elim, arith}
+use Rattle.std.proofs.Common.{◌≡◌, ℕ, ◌+◌, ◌<◌, ◌≤◌, Bool, true, false, cond, List, [], ◌∷◌, ◌++◌, length, Option, Some, None, Result, Ok, Err, refl, sym, ◌∙◌, ap, subst, inl, inr, ⊎_elim, arith}
 use Rattle.std.specs.Prelude.{slice_get}
-use Rattle.std.specs.List.{position_from}
 use Rattle.std.proofs.lemmas.Bool.{cases_lt}
 use Rattle.std.proofs.lemmas.List.{length-append}
 use Rattle.wild_numbering.specs.Numbering.{is_named, number_of}
@@ -24,21 +23,19 @@ use Rattle.wild_plan_spec.specs.declared.row.InputTable.{InputTable}
 use Rattle.wild_plan_spec.specs.Fates.{rule_decision, name_decision, decision, names_of, orphans_of, section_names, first_chunk, fate_by, fate, all_fates, fates_of}
 use Rattle.wild_plan_spec.specs.Names.{Name}
 use Rattle.wild_plan_spec.specs.Orphans.{orphan_places, places_of}
-use Rattle.wild_plan_spec.specs.Places.{Place, SetLocation, Within, Outside, Open, Collect, Rows, Close, Idle, contents_places, rest_chunk, section_places, discard_places, all_places, script_places}
+use Rattle.wild_plan_spec.specs.Places.{Place, Collect, Rows, Close, contents_places, rest_chunk, section_places, discard_places, all_places, script_places}
 use Rattle.wild_plan_spec.specs.Rules.{Rule, rule_of, pattern_decision, pattern_rules, place_rules, rules_in, rules_of, takes_row, first_rule}
 use Rattle.wild_plan_spec.specs.Statements.{Statement, Inner, Outer, is_discard, statement_sections, statements_of, sections_of}
-use Rattle.wild_plan_laws.proofs.Having.{Has, has_before, has_after, has_either, has_found}
+use Rattle.wild_walk_laws.proofs.Having.{Has, has_before, has_after, has_either, has_found}
+use Rattle.wild_walk_laws.proofs.Nesting.{names_length}
+use Rattle.wild_plan_laws.proofs.Numbered.{each_at, made_of, position_within}
 
 -- the place lays out the rows of the chunk
 abbrev pub Lays : Chunk → Place → Type 0
-Lays q (SetLocation e) = ⊥
-Lays q (Within task) = ⊥
-Lays q (Outside task) = ⊥
-Lays q (Open s) = ⊥
 Lays q (Collect collects m) = collects ≡ Some q
 Lays q (Rows own) = own ≡ q
 Lays q (Close s rest) = rest ≡ Some q
-Lays q Idle = ⊥
+Lays q p = ⊥
 
 -- ---- rules
 
@@ -64,14 +61,8 @@ module _ (k : Kept) where
       (has_either (Keeps k) (rule_of (making.files_of file) (making.names_of p.name) (pattern_decision q p)) (pattern_rules q file ps) h)
 
   place_keeps : (p : Place) → Has (Keeps k) (place_rules p) → Lays k.chunk p
-  place_keeps (SetLocation e) h = absurd h
-  place_keeps (Within task) h = absurd h
-  place_keeps (Outside task) h = absurd h
-  place_keeps (Open s) h = absurd h
   place_keeps (Collect q m) h = patterns_keep q m.input_file_pattern m.input_section_name_patterns h
-  place_keeps (Rows q) h = absurd h
-  place_keeps (Close s rest) h = absurd h
-  place_keeps Idle h = absurd h
+  place_keeps p h = absurd h
 
   -- the chunk for which a rule keeps rows
   rules_keep : (ps : List Place) → Has (Keeps k) (rules_in ps) → Has (Lays k.chunk) ps
@@ -93,20 +84,6 @@ module _ (k : Kept) where
   decision_keeps : (rules : List Rule) (row : InputRow) → decision rules row ≡ Keep k → Has (Keeps k) rules
   unfolding decision
   decision_keeps rules row e = name_keeps row.«section» rules row (chosen_keeps _ _ e)
-
--- ---- numbers of names
-
-position_by : (b : Bool) (n m s : ℕ) (o : Option ℕ) → (o ≡ Some s → s < n + 1 + m) → cond b (Some n) o ≡ Some s → s < n + suc m
-position_by true n m s o h e = let same : n ≡ s = cc in omega (arith, same)
-position_by false n m s o h e = let later = h e in omega (arith, later)
-
-position_within : {X : Type 0} (p : X → Bool) (n : ℕ) (xs : List X) (s : ℕ) → position_from p n xs ≡ Some s → s < n + length xs
-position_within p n [] s e = absurd (cc)
-position_within p n (x ∷ xs) s e = position_by (p x) n (length xs) s (position_from p (n + 1) xs) (position_within p (n + 1) xs s) e
-
-pub names_length : (xs : List Section) → length (names_of xs) ≡ length xs
-names_length [] = refl
-names_length (x ∷ xs) = ap suc (names_length xs)
 
 -- ---- sections
 
@@ -134,10 +111,7 @@ inner_lays false x s n rest others low high later = ⊎_elim
 sections_lay : (sts : List Statement) (s n : ℕ) → s ≤ n → n < s + length (statement_sections sts) → Has (Lays (first_of n)) (all_places s sts)
 sections_lay [] s n low high = absurd (omega (arith, low, high))
 sections_lay (Inner (inner.Section x) ∷ sts) s n low high = inner_lays (is_discard x) x s n (statement_sections sts) (λ m. all_places m sts) low high (λ m l h. sections_lay sts m n l h)
-sections_lay (Inner (inner.SetLocation l) ∷ sts) s n low high = inr (sections_lay sts s n low high)
-sections_lay (Inner (inner.SymbolAssignment a) ∷ sts) s n low high = inr (sections_lay sts s n low high)
-sections_lay (Inner (inner.Provide d) ∷ sts) s n low high = inr (sections_lay sts s n low high)
-sections_lay (Inner (inner.Assert c) ∷ sts) s n low high = inr (sections_lay sts s n low high)
+sections_lay (Inner c ∷ sts) s n low high = inr (sections_lay sts s n low high)
 sections_lay (Outer c ∷ sts) s n low high = has_after (Lays (first_of n)) _ (all_places s sts) (sections_lay sts s n low high)
 
 orphans_lay : (xs : List Name) (s n : ℕ) → s ≤ n → n < s + length xs → Has (Lays (first_of n)) (orphan_places s xs)
@@ -178,11 +152,15 @@ module _ (t : LinkerScript) (inputs : InputTable) where
   row_lays : (row : InputRow) (k : Kept) → fate (rules_of t) (section_names t inputs) row ≡ Some k → HasPlace k.chunk
   row_lays row k e = fate_lays row.«section» (decision (rules_of t) row) k (decision_keeps k (rules_of t) row) e
 
-  fates_lay : (rows : List InputRow) (r : ℕ) (k : Kept) → slice_get (all_fates (rules_of t) (section_names t inputs) rows) r ≡ Some (Some k) → HasPlace k.chunk
-  fates_lay [] r k e = absurd (cc)
-  fates_lay (row ∷ rows) zero k e = row_lays row k (cc)
-  fates_lay (row ∷ rows) (suc r) k e = fates_lay rows r k e
+  -- a row that is kept, and where its chunk is laid out
+  pub record IsLaidOut (r : ℕ) (k : Kept) : Type 0 where
+    pub row : InputRow
+    pub there : slice_get inputs.rows r ≡ Some row
+    pub place : HasPlace k.chunk
 
-  -- where a row is kept, its chunk has a place
-  pub kept_lays : (r : ℕ) (k : Kept) → slice_get (fates_of t inputs) r ≡ Some (Some k) → HasPlace k.chunk
-  kept_lays r k e = fates_lay inputs.rows r k e
+  pub kept_lays : (r : ℕ) (k : Kept) → slice_get (fates_of t inputs) r ≡ Some (Some k) → IsLaidOut r k
+  kept_lays r k e =
+      let names = section_names t inputs in
+      let each = each_at (λ n row. fate (rules_of t) names row) (λ n rows. all_fates (rules_of t) names rows) (λ n. refl) (λ n row rows. refl) inputs.rows r in
+      let made = made_of (fate (rules_of t) names) (slice_get inputs.rows r) (Some k) (sym each ∙ e) in
+      record { row = made.0; there = made.1; place = row_lays made.0 k made.2 }

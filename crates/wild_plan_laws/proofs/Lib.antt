@@ -1,12 +1,7 @@
-pub mod Growing
-pub mod Steps
-pub mod Having
+pub mod Numbered
 pub mod Found
-pub mod Walked
-pub mod Chunked
-pub mod Standing
 pub mod Kept
-pub mod Offsets
+pub mod Sharing
 pub mod Laid
 pub mod Apart
 pub mod Listed

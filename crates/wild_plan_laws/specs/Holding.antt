@@ -1,38 +1,15 @@
 -- What holds of a finished layout.
-use Rattle.std.specs.Prelude.{◌≡◌, ℕ, ◌+◌, ◌%◌, ◌^◌, ◌<◌, ◌≤◌, List, [], Some, Ok, slice_get}
-use Rattle.wild_expression_tree.specs.declared.tree.Expression.{Expression}
-use Rattle.wild_script.specs.Tree.{Bytes}
-use Rattle.wild_script.specs.declared.tree.LinkerScript.{LinkerScript}
-use Rattle.wild_value_spec.specs.Known.{Known, Start, Load, End, Address}
-use Rattle.wild_value_spec.specs.Value.{full}
+use Rattle.std.specs.Prelude.{◌≡◌, ℕ, ◌+◌, ◌%◌, ◌^◌, ◌<◌, ◌≤◌, List, Some, length, slice_get}
+use Rattle.wild_value_spec.specs.Known.{Known, Start, Load, End, Address, Dot}
+use Rattle.wild_plan_spec.specs.declared.chunk.Kept.{Kept}
 use Rattle.wild_plan_spec.specs.declared.row.InputRow.{InputRow}
-use Rattle.wild_plan_spec.specs.declared.row.InputTable.{InputTable}
-use Rattle.wild_plan_spec.specs.Chunks.{alignment_of}
-use Rattle.wild_plan_spec.specs.Definitions.{point_of}
-use Rattle.wild_plan_spec.specs.Steps.{State}
-use Rattle.wild_plan_spec.specs.Scopes.{scope_of}
-
--- the expression of place i has a value over what is known at the end, and it is listed with that
-pub record LaidLocationHolds (script : Bytes) (t : LinkerScript) (inputs : InputTable) (state : State) (i : ℕ) (e : Expression) : Type 0 where
-  pub address : ℕ
-  pub value : full (scope_of script t inputs) i state.known 1024 [] e (point_of i) ≡ Ok address
-  pub index : ℕ
-  pub listed : slice_get state.locations index ≡ Some (record { statement = i; address = address })
+use Rattle.wild_plan_spec.specs.Case.{Case}
+use Rattle.wild_plan_spec.specs.Fates.{fates_of, section_names}
+use Rattle.wild_plan_spec.specs.Orphans.{places_of}
+use Rattle.wild_plan_spec.specs.Places.{Place}
+use Rattle.wild_walk_laws.specs.Holding.{IsKnown}
 
 -- ---- rows
-
--- it is a multiple of the row's alignment, and the row ends below 2 ^ 64
-pub record IsPlaceOf (row : InputRow) (address : ℕ) : Type 0 where
-  pub aligned : address % 2 ^ alignment_of row ≡ 0
-  pub ends : address + row.size < 2 ^ 64
-
--- each row whose address is known has such a place
-abbrev pub StandInPlace : List InputRow → Known → Type 0
-StandInPlace rows known = (r : ℕ) (row : InputRow) (a : ℕ) → slice_get rows r ≡ Some row → known (Address r) ≡ Some a → IsPlaceOf row a
-
--- the address of row r is known
-abbrev pub HasAddress : Known → ℕ → Type 0
-HasAddress known r = (a : ℕ) × (known (Address r) ≡ Some a)
 
 -- the address x is one of row r
 pub record RowHolds (rows : List InputRow) (known : Known) (r x : ℕ) : Type 0 where
@@ -75,3 +52,13 @@ pub record LiesIn (known : Known) (s address size : ℕ) : Type 0 where
   pub spans : Spans known s start end
   pub from : start ≤ address
   pub to : address + size ≤ end
+
+-- ---- all
+
+-- the numbers of each section, the address of each row that is kept, and the location counter of each place are known
+pub record AllIsKnown (c : Case) (known : Known) : Type 0 where
+  pub starts : (s : ℕ) → s < length (section_names c.tree c.inputs) → IsKnown known (Start s)
+  pub loads : (s : ℕ) → s < length (section_names c.tree c.inputs) → IsKnown known (Load s)
+  pub ends : (s : ℕ) → s < length (section_names c.tree c.inputs) → IsKnown known (End s)
+  pub addresses : (r : ℕ) (k : Kept) → slice_get (fates_of c.tree c.inputs) r ≡ Some (Some k) → IsKnown known (Address r)
+  pub dots : (i : ℕ) (p : Place) → slice_get (places_of c.tree c.inputs) i ≡ Some p → IsKnown known (Dot i)

@@ -2,16 +2,17 @@
 use Rattle.std.specs.Prelude.{◌≡◌, ℕ, ◌+◌, ◌%◌, ◌^◌, ◌<◌, ◌≤◌, false, [], Some, Ok, slice_get}
 use Rattle.wild_expression_tree.specs.declared.tree.Expression.{Expression}
 use Rattle.wild_script.specs.Tree.{Bytes}
-use Rattle.wild_value_spec.specs.Value.{full}
+use Rattle.wild_value_spec.specs.Value.{full_value}
+use Rattle.wild_plan_spec.specs.declared.options.PlanOptions.{PlanOptions}
 use Rattle.wild_plan_spec.specs.declared.placed.PlacedInput.TheVariants.{Placed}
 use Rattle.wild_plan_spec.specs.declared.placed.PlacedSection.{PlacedSection}
 use Rattle.wild_plan_spec.specs.declared.row.InputRow.{InputRow}
 use Rattle.wild_plan_spec.specs.declared.row.InputTable.{InputTable}
 use Rattle.wild_plan_spec.specs.declared.row.SymbolRow.{SymbolRow}
 use Rattle.wild_plan_spec.specs.Chunks.{alignment_of}
-use Rattle.wild_plan_spec.specs.Definitions.{point_of}
-use Rattle.wild_plan_spec.specs.Fit.{IsPlan}
+use Rattle.wild_plan_spec.specs.Fit.{IsPlan, case_of}
 use Rattle.wild_plan_spec.specs.Layout.{Layout}
+use Rattle.wild_plan_spec.specs.Points.{location_point}
 use Rattle.wild_plan_spec.specs.Scopes.{scope_of}
 
 -- it starts at a multiple of its alignment, is loaded where it starts, and ends below 2 ^ 64
@@ -45,8 +46,8 @@ pub record SymbolStands (plan : Layout) (s address : ℕ) (symbol : SymbolRow) :
 
 -- what the statement of the location counter at place i makes of it is listed, and its expression is worth that over the
 -- finished layout
-pub record LocationHolds (script : Bytes) (inputs : InputTable) (plan : Layout) (f : IsPlan script inputs plan) (i : ℕ) (e : Expression) : Type 0 where
+pub record LocationHolds (script : Bytes) (inputs : InputTable) (options : PlanOptions) (plan : Layout) (f : IsPlan script inputs options plan) (i : ℕ) (e : Expression) : Type 0 where
   pub address : ℕ
-  pub value : full (scope_of script f.script_tree inputs) i f.fits.state.known 1024 [] e (point_of i) ≡ Ok address
+  pub value : full_value (scope_of (case_of script inputs options f.script_tree)) i f.fits.state.known [] e (location_point i) ≡ Ok address
   pub index : ℕ
   pub there : slice_get plan.locations index ≡ Some (record { statement = i; address = address })

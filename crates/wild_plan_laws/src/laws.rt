@@ -1,72 +1,60 @@
 //! Laws about layouts: what holds where all places are laid out.
 
-ghost use Rattle.std.specs.Prelude.{◌≡◌, ℕ, ◌+◌, ◌^◌, ◌<◌, Some, slice_get};
-ghost use Rattle.wild_expression_tree.specs.declared.tree.Expression.{Expression};
-ghost use Rattle.wild_plan_laws.specs.Holding.{HasAddress, LaidLocationHolds, LiesIn, RowHolds, SectionHolds, LaidSectionStands, StandInPlace};
+ghost use Rattle.std.specs.Prelude.{◌≡◌, ℕ, Some, slice_get};
+ghost use Rattle.wild_plan_laws.specs.Holding.{AllIsKnown, LaidSectionStands, LiesIn, RowHolds, SectionHolds};
+ghost use Rattle.wild_plan_laws.specs.Sharing.{SharingIsLowest};
 ghost use Rattle.wild_plan_spec.specs.declared.chunk.Kept.{Kept};
 ghost use Rattle.wild_plan_spec.specs.declared.row.InputRow.{InputRow};
-ghost use Rattle.wild_plan_spec.specs.declared.row.InputTable.{InputTable};
-ghost use Rattle.wild_plan_spec.specs.declared.row.SymbolRow.{SymbolRow};
+ghost use Rattle.wild_plan_spec.specs.Case.{Case};
 ghost use Rattle.wild_plan_spec.specs.Chunks.{largest_alignment, section_rows};
 ghost use Rattle.wild_plan_spec.specs.Fates.{fates_of, section_names};
 ghost use Rattle.wild_plan_spec.specs.Fit.{IsLaid};
-ghost use Rattle.wild_plan_spec.specs.Steps.{State};
 ghost use Rattle.wild_plan_spec.specs.Names.{Name};
-ghost use Rattle.wild_plan_spec.specs.Orphans.{places_of};
-ghost use Rattle.wild_plan_spec.specs.Places.{SetLocation};
-ghost use Rattle.wild_script.specs.Tree.{Bytes};
-ghost use Rattle.wild_script.specs.declared.tree.LinkerScript.{LinkerScript};
-ghost use Rattle.wild_value_spec.specs.Known.{Address};
+ghost use Rattle.wild_plan_spec.specs.Steps.{State};
+ghost use Rattle.wild_value_spec.specs.Known.{Known, Address};
+ghost use Rattle.wild_walk_laws.specs.Holding.{IsKnown};
 
-/// Where all places are laid out, each statement of the location counter in SECTIONS is listed with the value that its
-/// expression has over the finished layout.
-pub fn locations_hold()
-    ensures { (script : Bytes) (t : LinkerScript) (inputs : InputTable) (state : State) → IsLaid script t inputs state
-        → (i : ℕ) (e : Expression) → slice_get (places_of t inputs) i ≡ Some (SetLocation e) → LaidLocationHolds script t inputs state i e }
-{}
-
-/// Where all places are laid out, each row whose address is known stands at a multiple of its alignment and ends below
-/// 2 ^ 64.
-pub fn rows_stand_in_place()
-    ensures { (script : Bytes) (t : LinkerScript) (inputs : InputTable) (state : State) → IsLaid script t inputs state → StandInPlace inputs.rows state.known }
+/// The section that is named where a section overlaps earlier ones is the one that starts lowest, the first of them where
+/// several do, and none is named just where none shares an address.
+pub fn sharing_is_lowest()
+    ensures { (known : Known) (start end n : ℕ) → SharingIsLowest known start end n }
 {}
 
 /// Where all places are laid out, each row that is kept has an address.
 pub fn kept_rows_have_addresses()
-    ensures { (script : Bytes) (t : LinkerScript) (inputs : InputTable) (state : State) → IsLaid script t inputs state
-        → (r : ℕ) (k : Kept) → slice_get (fates_of t inputs) r ≡ Some (Some k) → HasAddress state.known r }
-{}
-
-/// Where all places are laid out, the address of a symbol of the table does not wrap: that of its row, where it is known, and
-/// the symbol's offset have a sum below 2 ^ 64.
-pub fn symbols_stand_in_rows()
-    ensures { (script : Bytes) (t : LinkerScript) (inputs : InputTable) (state : State) → IsLaid script t inputs state
-        → (i : ℕ) (s : SymbolRow) → slice_get inputs.symbols i ≡ Some s → (a : ℕ) → state.known (Address s.row) ≡ Some a → a + s.offset < 2 ^ 64 }
+    ensures { (c : Case) (state : State) → IsLaid c state
+        → (r : ℕ) (k : Kept) → slice_get (fates_of c.tree c.inputs) r ≡ Some (Some k) → IsKnown state.known (Address r) }
 {}
 
 /// Where all places are laid out, each section, an orphan too, starts at a multiple of the largest alignment of its rows, is
 /// loaded where it starts, and ends no lower and below 2 ^ 64.
 pub fn sections_stand()
-    ensures { (script : Bytes) (t : LinkerScript) (inputs : InputTable) (state : State) → IsLaid script t inputs state
-        → (s : ℕ) (name : Name) → slice_get (section_names t inputs) s ≡ Some name
-        → LaidSectionStands state.known s (largest_alignment (section_rows s inputs.rows (fates_of t inputs))) }
+    ensures { (c : Case) (state : State) → IsLaid c state
+        → (s : ℕ) (name : Name) → slice_get (section_names c.tree c.inputs) s ≡ Some name
+        → LaidSectionStands state.known s (largest_alignment (section_rows s c.inputs.rows (fates_of c.tree c.inputs))) }
 {}
 
 /// Where all places are laid out, each row that has an address lies in the section of its chunk.
 pub fn rows_lie_in_sections()
-    ensures { (script : Bytes) (t : LinkerScript) (inputs : InputTable) (state : State) → IsLaid script t inputs state
-        → (r : ℕ) (row : InputRow) (k : Kept) → slice_get inputs.rows r ≡ Some row → slice_get (fates_of t inputs) r ≡ Some (Some k)
+    ensures { (c : Case) (state : State) → IsLaid c state
+        → (r : ℕ) (row : InputRow) (k : Kept) → slice_get c.inputs.rows r ≡ Some row → slice_get (fates_of c.tree c.inputs) r ≡ Some (Some k)
         → (a : ℕ) → state.known (Address r) ≡ Some a → LiesIn state.known k.chunk.section a row.size }
 {}
 
 /// Where all places are laid out, no address is one of two sections.
 pub fn sections_do_not_overlap()
-    ensures { (script : Bytes) (t : LinkerScript) (inputs : InputTable) (state : State) → IsLaid script t inputs state
+    ensures { (c : Case) (state : State) → IsLaid c state
         → (s u x : ℕ) → SectionHolds state.known s x → SectionHolds state.known u x → s ≡ u }
 {}
 
 /// Where all places are laid out, no address is one of two rows.
 pub fn rows_do_not_overlap()
-    ensures { (script : Bytes) (t : LinkerScript) (inputs : InputTable) (state : State) → IsLaid script t inputs state
-        → (p r x : ℕ) → RowHolds inputs.rows state.known p x → RowHolds inputs.rows state.known r x → p ≡ r }
+    ensures { (c : Case) (state : State) → IsLaid c state
+        → (p r x : ℕ) → RowHolds c.inputs.rows state.known p x → RowHolds c.inputs.rows state.known r x → p ≡ r }
+{}
+
+/// Where all places are laid out, nothing that may be asked of them is unknown: the numbers of sections, the addresses of
+/// rows that are kept, and the location counters of places.
+pub fn all_is_known()
+    ensures { (c : Case) (state : State) → IsLaid c state → AllIsKnown c state.known }
 {}

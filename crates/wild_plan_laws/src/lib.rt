@@ -5,8 +5,8 @@ mod laws;
 mod plans;
 
 pub use laws::{
-    kept_rows_have_addresses, locations_hold, rows_do_not_overlap, rows_lie_in_sections,
-    rows_stand_in_place, sections_do_not_overlap, sections_stand, symbols_stand_in_rows,
+    all_is_known, kept_rows_have_addresses, rows_do_not_overlap, rows_lie_in_sections,
+    sections_do_not_overlap, sections_stand, sharing_is_lowest,
 };
 pub use plans::{
     listed_locations_hold, listed_rows_do_not_overlap, listed_rows_stand,

@@ -1,0 +1,87 @@
+-- Which section the lowest that shares an address is.
+use Rattle.std.proofs.Common.{◌≡◌, ◌∙◌, ℕ, zero, suc, ◌<◌, ◌≤◌, ◌↔◌, Bool, true, false, nat_lt, cond, Option, Some, None, refl, sym, ap, subst, ⊎_elim, arith}
+use Rattle.std.proofs.lemmas.Bool.{cases_lt, cases_order, ltb-true, ltb-false, both_ways}
+use Rattle.wild_value_spec.specs.Known.{Known, Start, number_at}
+use Rattle.wild_plan_spec.specs.Overlaps.{shares, lower_section, lowest_sharing}
+use Rattle.wild_plan_laws.specs.Sharing.{NoneShares, IsLowest, SharingIsLowest}
+
+module _ (known : Known) (start end : ℕ) where
+  abbrev at : ℕ → ℕ
+  at s = number_at known (Start s)
+
+  abbrev Found : ℕ → Option ℕ → Type 0
+  Found n None = NoneShares known start end n
+  Found n (Some s) = IsLowest known start end n s
+
+  -- a section with a number up to n is an earlier one, or it is n
+  up_to : (n u : ℕ) (P : ℕ → Type 0) → u < suc n → (u < n → P u) → P n → P u
+  up_to n u P low before here = ⊎_elim before (λ le. let same : n ≡ u = omega (arith, low, le) in subst P same here) (cases_lt u n)
+
+  shares_not : (u : ℕ) (P : Type 0) → shares known start end u ≡ false → shares known start end u ≡ true → P
+  shares_not u P e f = absurd (both_ways (shares known start end u) e f)
+
+  -- of an earlier one and section n, which shares one too
+  chosen : (n s : ℕ) (b : Bool) → nat_lt (at n) (at s) ≡ b → shares known start end n ≡ true → IsLowest known start end n s → Found (suc n) (cond b (Some n) (Some s))
+  chosen n s true lower e h =
+      let less = ltb-true (at n) (at s) lower in
+      record {
+        below = omega arith;
+        shared = e;
+        lowest = λ u low f. up_to n u (λ v. shares known start end v ≡ true → at n ≤ at v) low (λ before g. let least = h.lowest u before g in omega (arith, less, least)) (λ g. omega arith) f;
+        first = λ u low f. let least = h.lowest u low f in omega (arith, less, least);
+      }
+  chosen n s false lower e h =
+      let more = ltb-false (at n) (at s) lower in
+      let below = h.below in
+      record {
+        below = omega (arith, below);
+        shared = h.shared;
+        lowest = λ u low f. up_to n u (λ v. shares known start end v ≡ true → at s ≤ at v) low (λ before g. h.lowest u before g) (λ g. more) f;
+        first = h.first;
+      }
+
+  one_more : (n : ℕ) (o : Option ℕ) (b : Bool) → shares known start end n ≡ b → Found n o → Found (suc n) (lower_section known o (cond b (Some n) None))
+  one_more n None false e h = λ u low. up_to n u (λ v. shares known start end v ≡ false) low (λ before. h u before) e
+  one_more n None true e h = record {
+    below = omega arith;
+    shared = e;
+    lowest = λ u low f. up_to n u (λ v. shares known start end v ≡ true → at n ≤ at v) low (λ before g. shares_not u _ (h u before) g) (λ g. omega arith) f;
+    first = λ u low f. shares_not u _ (h u low) f;
+  }
+  one_more n (Some s) false e h =
+      let below = h.below in
+      record {
+        below = omega (arith, below);
+        shared = h.shared;
+        lowest = λ u low f. up_to n u (λ v. shares known start end v ≡ true → at s ≤ at v) low (λ before g. h.lowest u before g) (λ g. shares_not n _ e g) f;
+        first = h.first;
+      }
+  one_more n (Some s) true e h = chosen n s (nat_lt (at n) (at s)) refl e h
+
+  found : (n : ℕ) → Found n (lowest_sharing known start end n)
+  found zero = λ u low. absurd (omega (arith, low))
+  found (suc n) = one_more n (lowest_sharing known start end n) (shares known start end n) refl (found n)
+
+  -- there is one such section at most
+  one_lowest : (n s u : ℕ) → IsLowest known start end n s → IsLowest known start end n u → s ≡ u
+  one_lowest n s u f g =
+      let least = f.lowest u g.below g.shared in
+      let other = g.lowest s f.below f.shared in
+      ⊎_elim (λ same. same) (λ apart. ⊎_elim
+      (λ lt. let less = g.first s lt f.shared in absurd (omega (arith, less, least)))
+      (λ gt. let less = f.first u gt g.shared in absurd (omega (arith, less, other)))
+      apart) (cases_order s u)
+
+  is_some : (n s : ℕ) (o : Option ℕ) → Found n o → IsLowest known start end n s → o ≡ Some s
+  is_some n s None h g = shares_not s _ (h s g.below) g.shared
+  is_some n s (Some u) h g = ap Some (one_lowest n u s h g)
+
+  is_none : (n : ℕ) (o : Option ℕ) → Found n o → NoneShares known start end n → o ≡ None
+  is_none n None h g = refl
+  is_none n (Some s) h g = shares_not s _ (g s h.below) h.shared
+
+pub sharing_is_lowest : (known : Known) (start end n : ℕ) → SharingIsLowest known start end n
+sharing_is_lowest known start end n = record {
+  some = λ s. (λ e. subst (Found known start end n) e (found known start end n), is_some known start end n s (lowest_sharing known start end n) (found known start end n));
+  none = (λ e. subst (Found known start end n) e (found known start end n), is_none known start end n (lowest_sharing known start end n) (found known start end n));
+}

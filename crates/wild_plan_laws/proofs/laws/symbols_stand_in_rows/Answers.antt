@@ -1,5 +1,0 @@
-use Rattle.wild_plan_laws.proofs.Offsets.{symbols_stand_in_rows}
-use Rattle.wild_plan_laws.proofs.laws.symbols_stand_in_rows.Goals as goal
-
-pub returns : goal.returns
-returns c = symbols_stand_in_rows
