@@ -1,11 +1,10 @@
 -- Where sections and rows lie, and that none overlap, wherever places are laid out.
-use Rattle.std.proofs.Common.{◌≡◌, ◌∙◌, ◌⊎◌, ℕ, suc, ◌+◌, ◌%◌, ◌^◌, ◌<◌, ◌≤◌, ◌==◌, ◌&&◌, Bool, true, false, List, Option, Some, None, Ok, refl, sym, ap, subst, inl, inr, ⊎_elim, arith}
+use Rattle.std.proofs.Common.{◌≡◌, ◌∙◌, ◌⊎◌, ℕ, ◌+◌, ◌%◌, ◌^◌, ◌<◌, ◌≤◌, ◌&&◌, Bool, true, false, List, Option, Some, None, Ok, refl, sym, ap, subst, inl, inr, ⊎_elim, arith}
 use Rattle.std.specs.Prelude.{slice_get}
 use Rattle.std.specs.List.{All}
 use Rattle.std.specs.Option.{option_map}
 use Rattle.std.proofs.lemmas.Bool.{cases_lt, lt-ltb, ne_eqb, eqb-true}
-use Rattle.std.proofs.lemmas.List.Elements.{All-weaker}
-use Rattle.wild_value_spec.specs.Known.{Known, IsPart, Asked, Start, Load, End, Address, Dot, LoadDot, nothing, number_at, same_asked, with_number}
+use Rattle.wild_value_spec.specs.Known.{Known, IsPart, Asked, Start, Load, End, Address, Dot, nothing, number_at, same_asked, with_number}
 use Rattle.wild_plan_spec.specs.declared.chunk.Chunk.{Chunk}
 use Rattle.wild_plan_spec.specs.declared.chunk.ChunkRow.{ChunkRow}
 use Rattle.wild_plan_spec.specs.declared.chunk.Kept.{Kept}
@@ -13,7 +12,7 @@ use Rattle.wild_plan_spec.specs.declared.row.InputRow.{InputRow}
 use Rattle.wild_plan_spec.specs.Definitions.{row_chunk}
 use Rattle.wild_plan_spec.specs.Ground.{Ground}
 use Rattle.wild_plan_spec.specs.Overlaps.{shares, lowest_sharing}
-use Rattle.wild_plan_spec.specs.Steps.{State, row_placed, rows_placed, chunk_placed}
+use Rattle.wild_plan_spec.specs.Steps.{State, row_placed, chunk_placed}
 use Rattle.wild_walk_laws.specs.Nesting.{Zone, Free, Inside}
 use Rattle.wild_walk_laws.proofs.Chunked.{IsRow, IsRowOf}
 use Rattle.wild_walk_laws.proofs.Entries.{known_number, one_number, grown_entry, new_entry, other_entry, entry_is}

@@ -1,5 +1,5 @@
 -- What a plan lists is what is known of the layout, so that it stands as that does.
-use Rattle.std.proofs.Common.{◌≡◌, ◌∙◌, ℕ, zero, suc, ◌+◌, ◌-◌, ◌%◌, ◌^◌, ◌<◌, ◌≤◌, List, [], ◌∷◌, ◌++◌, length, get_or, false, Option, Some, None, refl, sym, ap, subst, inl, arith}
+use Rattle.std.proofs.Common.{◌≡◌, ◌∙◌, ℕ, zero, suc, ◌+◌, ◌-◌, ◌%◌, ◌^◌, List, [], ◌∷◌, ◌++◌, get_or, false, Option, Some, None, refl, sym, ap, subst, inl, arith}
 use Rattle.std.specs.Prelude.{slice_get}
 use Rattle.std.specs.Option.{option_map}
 use Rattle.std.proofs.lemmas.Option.{slice_get-get_or}
@@ -18,7 +18,7 @@ use Rattle.wild_plan_spec.specs.declared.row.InputTable.{InputTable}
 use Rattle.wild_plan_spec.specs.declared.row.SymbolRow.{SymbolRow}
 use Rattle.wild_plan_spec.specs.Case.{Case}
 use Rattle.wild_plan_spec.specs.Definitions.{symbol_chunk}
-use Rattle.wild_plan_spec.specs.Facts.{Facts, facts_of}
+use Rattle.wild_plan_spec.specs.Facts.{facts_of}
 use Rattle.wild_plan_spec.specs.Fit.{IsLaid, IsPlan, case_of}
 use Rattle.wild_plan_spec.specs.Layout.{Layout, placed_section, placed_sections, placed_input, placed_inputs}
 use Rattle.wild_plan_spec.specs.Names.{Name}
@@ -28,7 +28,7 @@ use Rattle.wild_plan_spec.specs.Steps.{State}
 use Rattle.wild_plan_spec.specs.Symbols.{table_symbol, table_symbols}
 use Rattle.wild_walk_laws.proofs.Entries.{known_number}
 use Rattle.wild_walk_laws.proofs.Growing.{locations_hold}
-use Rattle.wild_walk_laws.proofs.Having.{Has, IsAmong, has_before, has_after, has_there}
+use Rattle.wild_walk_laws.proofs.Having.{IsAmong, has_before, has_after, has_there}
 use Rattle.wild_walk_laws.proofs.Offsets.{symbols_stand_in_rows}
 use Rattle.wild_walk_laws.proofs.Standing.{rows_stand_in_place}
 use Rattle.wild_plan_laws.specs.Holding as holding

@@ -1,7 +1,6 @@
 -- The rows of each chunk, in their order, are the rows of the table that go to that chunk.
-use Rattle.std.proofs.Common.{◌≡◌, ◌∙◌, ℕ, zero, suc, ◌+◌, ◌<◌, ◌==◌, Bool, true, false, List, [], ◌∷◌, length, Option, Some, None, refl, sym, ap, subst, inl, inr, arith}
+use Rattle.std.proofs.Common.{◌≡◌, ◌∙◌, ℕ, zero, suc, ◌+◌, ◌==◌, true, List, [], ◌∷◌, Option, Some, None, refl, sym, ap, subst, inl, inr, arith}
 use Rattle.std.specs.Prelude.{slice_get, get_or}
-use Rattle.std.specs.Cmp.{IsStrictWeakOrder}
 use Rattle.std.specs.List.{All, filter}
 use Rattle.std.specs.List.Sorted.{ties}
 use Rattle.std.proofs.lemmas.Bool.{and_parts, and_from, eqb-true, eq-eqb}
@@ -117,9 +116,10 @@ module _ (rows : List InputRow) (fates : List (Option Kept)) where
     among_rows c h =
         let listed = same_has cs (rows_in q rows fates) f.stable (λ d. d ≡ c) h in
         let passed = has_passed (λ d. d ≡ c) (is_of q) (kept_rows 0 rows fates) listed in
-        let one = has_there (λ d. (d ≡ c) × (is_of q d ≡ true)) (kept_rows 0 rows fates) passed in
-        (row_is c (row_of (λ d. d ≡ c) 0 rows fates (has_weaker _ (λ d. d ≡ c) (λ d both. both.0) (kept_rows 0 rows fates) passed)),
-        chunk_is q c.chunk (subst (λ (d : ChunkRow). is_of q d ≡ true) one.3.0 one.3.1))
+        let one = has_there (λ d. (d ≡ c) × (is_of q d ≡ true)) (kept_rows 0 rows fates) passed in (
+          row_is c (row_of (λ d. d ≡ c) 0 rows fates (has_weaker _ (λ d. d ≡ c) (λ d both. both.0) (kept_rows 0 rows fates) passed)),
+          chunk_is q c.chunk (subst (λ (d : ChunkRow). is_of q d ≡ true) one.3.0 one.3.1),
+        )
 
     -- each of them is one
     pub chunk_rows : All (IsRowOf q) cs

@@ -1,5 +1,5 @@
 -- What is known with one more entry.
-use Rattle.std.proofs.Common.{◌≡◌, ◌∙◌, ◌⊎◌, ℕ, ◌==◌, Bool, true, false, cond, Option, Some, None, refl, sym, inl, inr}
+use Rattle.std.proofs.Common.{◌≡◌, ◌∙◌, ◌⊎◌, ℕ, Bool, true, false, cond, Option, Some, None, refl, sym, inl, inr}
 use Rattle.std.proofs.lemmas.Bool.{eq-eqb}
 use Rattle.wild_value_spec.specs.Known.{Known, Asked, IsPart, Start, Load, End, Address, Dot, LoadDot, number_at, or_else, same_asked, with_number}
 use Rattle.wild_walk_laws.specs.Holding.{IsKnown}

@@ -1,5 +1,5 @@
 -- The places of a script and its orphans nest: by recursion over the tree, once.
-use Rattle.std.proofs.Common.{◌≡◌, ◌∙◌, ℕ, suc, ◌+◌, Bool, true, false, cond, List, [], ◌∷◌, ◌++◌, length, Option, Some, None, refl, sym, ap, subst, arith}
+use Rattle.std.proofs.Common.{◌≡◌, ◌∙◌, ℕ, suc, ◌+◌, Bool, true, false, cond, List, [], ◌∷◌, ◌++◌, length, refl, sym, ap, subst, arith}
 use Rattle.std.specs.Prelude.{IfSome}
 use Rattle.std.proofs.lemmas.List.{length-append}
 use Rattle.wild_script.specs.declared.tree.Command.TheVariants as command
@@ -32,9 +32,12 @@ rest_own s [] = refl
 rest_own s (OfMatcher m ∷ cs) = tt
 
 section_nests : (s : ℕ) (x : Section) → Nests (Free s) (section_places s x) (Free (s + 1))
-section_nests s x =
-    (Inside s, (refl, refl), nests_both (contents_places s 0 x.commands) (Close s (rest_chunk s x.commands) ∷ []) (Inside s) (Inside s) (Free (s + 1))
-    (contents_nest s 0 x.commands) (Free (s + 1), (refl, rest_own s x.commands, refl), refl))
+section_nests s x = (
+  Inside s,
+  (refl, refl),
+  nests_both (contents_places s 0 x.commands) (Close s (rest_chunk s x.commands) ∷ []) (Inside s) (Inside s) (Free (s + 1))
+      (contents_nest s 0 x.commands) (Free (s + 1), (refl, rest_own s x.commands, refl), refl),
+)
 
 -- ---- statements
 

@@ -1,5 +1,5 @@
 -- Rows stand at multiples of their alignments and end below 2 ^ 64, wherever places are laid out.
-use Rattle.std.proofs.Common.{◌≡◌, ◌∙◌, ℕ, ◌+◌, ◌%◌, ◌^◌, ◌<◌, ◌≤◌, nat_lt, Bool, true, false, cond, List, [], ◌∷◌, max, Option, Some, None, Ok, refl, sym, ap, subst, ⊎_elim, arith}
+use Rattle.std.proofs.Common.{◌≡◌, ◌∙◌, ℕ, ◌+◌, ◌%◌, ◌^◌, ◌<◌, ◌≤◌, nat_lt, Bool, true, false, cond, List, [], ◌∷◌, Option, Some, Ok, refl, sym, ap, ⊎_elim, arith}
 use Rattle.std.specs.Prelude.{slice_get}
 use Rattle.std.specs.List.{All}
 use Rattle.std.specs.List.Sorted.{IsSortedBy}
@@ -8,8 +8,7 @@ use Rattle.std.specs.declared.cmp.Ordering.{Ordering}
 use Rattle.std.specs.declared.cmp.Ordering.TheVariants.{Less, Equal, Greater}
 use Rattle.std.proofs.lemmas.Bool.{cases_lt, lt-ltb, eqb-true}
 use Rattle.std.proofs.lemmas.List.Elements.{All-nil, All-cons, All-head, All-tail, All-weaker}
-use Rattle.wild_value_spec.specs.Known.{Known, Start, Load, End, Address, Dot, same_asked, with_number}
-use Rattle.wild_plan_spec.specs.declared.chunk.Chunk.{Chunk}
+use Rattle.wild_value_spec.specs.Known.{Known, Start, Load, End, Address, Dot, with_number}
 use Rattle.wild_plan_spec.specs.declared.chunk.ChunkRow.{ChunkRow}
 use Rattle.wild_plan_spec.specs.declared.chunk.Kept.{Kept}
 use Rattle.wild_plan_spec.specs.declared.row.InputRow.{InputRow}
@@ -17,17 +16,15 @@ use Rattle.wild_plan_spec.specs.Case.{Case}
 use Rattle.wild_plan_spec.specs.Chunks.{alignment_of, largest}
 use Rattle.wild_plan_spec.specs.Fates.{fates_of}
 use Rattle.wild_plan_spec.specs.Fit.{IsLaid}
-use Rattle.wild_plan_spec.specs.Ground.{Ground, ground_of}
 use Rattle.wild_plan_spec.specs.Steps.{State, row_placed, rows_placed, chunk_placed}
 use Rattle.wild_plan_spec.specs.Order.{stands_before}
 use Rattle.wild_plan_spec.proofs.Ordered.{none_less, sorted_tail}
 use Rattle.wild_plan_spec.proofs.RowOrder.{stands_weakly}
 use Rattle.wild_walk_laws.specs.Holding.{StandInPlace}
-use Rattle.wild_walk_laws.specs.Nesting.{Zone}
 use Rattle.wild_walk_laws.proofs.Chunked.{IsRow, chunk_rows}
 use Rattle.wild_walk_laws.proofs.Entries.{other_entry, entry_is}
-use Rattle.wild_walk_laws.proofs.Steps.{IsMultiple, IsUp, lower_power, sum_multiple, noted_at, opened_at, ended_at, bind_ok, by_state, by_row, by_chunk}
-use Rattle.wild_walk_laws.proofs.Walked.{Passes, laid_walked}
+use Rattle.wild_walk_laws.proofs.Steps.{IsMultiple, lower_power, sum_multiple, noted_at, opened_at, ended_at, bind_ok, by_state, by_row, by_chunk}
+use Rattle.wild_walk_laws.proofs.Walked.{laid_walked}
 
 -- ---- the order of rows
 
@@ -81,9 +78,10 @@ module _ (rows : List InputRow) (fates : List (Option Kept)) where
 
   row_stands : (c : ChunkRow) (st next : State) → IsRow rows fates c → IsMultiple st.cursor c.alignment.0 → InPlace st.known → row_placed c st ≡ Ok next → Stepped c next
   row_stands c st next of at h e = by_row (Stepped c) c st next e (λ size end up sum fits.
-      let big = up.reaches in
-      (one_more c st.cursor size st.known of at big (omega (arith, sum, fits)) h,
-      ap (λ (n : ℕ). n % 2 ^ c.alignment.0) sum ∙ sum_multiple st.cursor size c.alignment.0 at up.multiple))
+      let big = up.reaches in (
+        one_more c st.cursor size st.known of at big (omega (arith, sum, fits)) h,
+        ap (λ (n : ℕ). n % 2 ^ c.alignment.0) sum ∙ sum_multiple st.cursor size c.alignment.0 at up.multiple,
+      ))
 
   rows_stand : (cs : List ChunkRow) (top : ℕ) (st next : State) → All (IsRow rows fates) cs → IsSortedBy stands_before cs → AllBelow top cs → IsMultiple st.cursor top → InPlace st.known → rows_placed cs st ≡ Ok next → InPlace next.known
   rows_stand [] top st next all up below at h e = by_state (λ (s : State). InPlace s.known) st next e h

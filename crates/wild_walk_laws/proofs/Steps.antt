@@ -13,7 +13,6 @@ use Rattle.wild_value_spec.specs.Answer.{◌>>=◌}
 use Rattle.wild_value_spec.specs.Known.{Start, Load, End, Address, Dot, number_at, with_number}
 use Rattle.wild_value_spec.specs.Value.{sum_of, full_value}
 use Rattle.wild_plan_spec.specs.declared.chunk.ChunkRow.{ChunkRow}
-use Rattle.wild_plan_spec.specs.declared.placed.PlacedLocation.{PlacedLocation}
 use Rattle.wild_plan_spec.specs.Chunks.{largest}
 use Rattle.wild_plan_spec.specs.Ground.{Ground}
 use Rattle.wild_plan_spec.specs.Overlaps.{lowest_sharing}

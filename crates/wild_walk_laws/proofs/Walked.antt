@@ -1,5 +1,5 @@
 -- What holds before the first of nested places and goes over each step holds where all of them are laid out.
-use Rattle.std.proofs.Common.{◌≡◌, ◌∙◌, ℕ, suc, ◌+◌, List, [], ◌∷◌, length, Option, Some, None, Ok, refl, sym, ap, subst, arith}
+use Rattle.std.proofs.Common.{◌≡◌, ◌∙◌, ℕ, suc, ◌+◌, List, [], ◌∷◌, length, Some, None, Ok, refl, sym, ap, subst, arith}
 use Rattle.std.specs.Prelude.{slice_get}
 use Rattle.wild_value_spec.specs.Known.{Start, number_at}
 use Rattle.wild_plan_spec.specs.declared.chunk.Chunk.{Chunk}
