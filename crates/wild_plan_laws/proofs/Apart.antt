@@ -64,8 +64,7 @@ module _ (c : Case) (state : State) (f : IsLaid c state) where
       let same : lies.row ≡ row = cc in
       let own : found.number ≡ k.chunk.«section» = goes_to_one c.inputs.rows (fates c) r found.number k.chunk.«section» lies.goes (goes_to c.inputs.rows (fates c) r k fate) in
       let size = ap (λ (row : InputRow). row.size) same in
-      let to = lies.to in
-      subst (λ (s : ℕ). LiesIn state.known s a row.size) own (record { start = found.start; end = found.end; spans = found.spans; from = lies.from; to = omega (arith, to, size) })
+      subst (λ (s : ℕ). LiesIn state.known s a row.size) own (record { start = found.start; end = found.end; spans = found.spans; from = lies.from; to = omega (arith, size) })
 
   -- a section that starts is one of those that stand
   pub starts_below : (s n : ℕ) → state.known (Start s) ≡ Some n → s < length (names c)
@@ -87,11 +86,7 @@ module _ (c : Case) (state : State) (f : IsLaid c state) where
       let rows : Some lies.row ≡ Some h.row = sym lies.there ∙ h.there in
       let same : lies.row ≡ h.row = cc in
       let size = ap (λ (row : InputRow). row.size) same in
-      let low = lies.from in
-      let high = lies.to in
-      let from = h.from in
-      let to = h.to in
-      record { number = found.number; goes = lies.goes; holds = record { start = found.start; end = found.end; spans = found.spans; from = omega (arith, low, from); to = omega (arith, high, to, size) } }
+      record { number = found.number; goes = lies.goes; holds = record { start = found.start; end = found.end; spans = found.spans; from = omega arith; to = omega (arith, size) } }
 
   pub rows_do_not_overlap : (p r x : ℕ) → RowHolds c.inputs.rows state.known p x → RowHolds c.inputs.rows state.known r x → p ≡ r
   rows_do_not_overlap p r x one other =

@@ -86,9 +86,7 @@ held_before : (known more : Known) (s alignment x : ℕ) → IsPart known more �
 held_before known more s alignment x part h holds =
     let start = one_number more (Start s) h.start holds.start (part (Start s) h.start h.spans.starts) holds.spans.starts in
     let end = one_number more (End s) h.end holds.end (part (End s) h.end h.spans.ends) holds.spans.ends in
-    let from = holds.from in
-    let to = holds.to in
-    record { start = h.start; end = h.end; spans = h.spans; from = omega (arith, start, from); to = omega (arith, end, to) }
+    record { start = h.start; end = h.end; spans = h.spans; from = omega (arith, start); to = omega (arith, end) }
 
 all_four : (a b c d : Bool) → a ≡ true → b ≡ true → c ≡ true → d ≡ true → (a && (b && (c && d))) ≡ false → ⊥
 all_four a b c d p q r s e = let whole : (true && (true && (true && true))) ≡ false = rw (p, q, r, s) at e in cc
@@ -97,15 +95,13 @@ all_four a b c d p q r s e = let whole : (true && (true && (true && true))) ≡ 
 shares_none : (known : Known) (s start end x : ℕ) → shares known start end s ≡ false → SectionHolds known s x → start ≤ x → x < end → ⊥
 unfolding shares
 shares_none known s start end x e holds low high =
-    let from = holds.from in
-    let to = holds.to in
     let first : number_at known (Start s) ≡ holds.start = known_number known (Start s) holds.start holds.spans.starts in
     let last : number_at known (End s) ≡ holds.end = known_number known (End s) holds.end holds.spans.ends in
     all_four _ _ _ _
-    (lt-ltb (number_at known (Start s)) (number_at known (End s)) (omega (arith, first, last, from, to)))
+    (lt-ltb (number_at known (Start s)) (number_at known (End s)) (omega (arith, first, last)))
     (lt-ltb start end (omega (arith, low, high)))
-    (lt-ltb start (number_at known (End s)) (omega (arith, last, low, to)))
-    (lt-ltb (number_at known (Start s)) end (omega (arith, first, from, high)))
+    (lt-ltb start (number_at known (End s)) (omega (arith, last, low)))
+    (lt-ltb (number_at known (Start s)) end (omega (arith, first, high)))
     e
 
 module _ (alignment : ℕ → ℕ) where
@@ -131,9 +127,7 @@ module _ (alignment : ℕ → ℕ) where
     own_apart u x low one other =
         let first = one_number more (Start s) start other.start spans.starts other.spans.starts in
         let last = one_number more (End s) end other.end spans.ends other.spans.ends in
-        let from = other.from in
-        let to = other.to in
-        shares_none known u start end x (alone u low) (held_before known more u (alignment u) x part (h.stand u low) one) (omega (arith, first, from)) (omega (arith, last, to))
+        shares_none known u start end x (alone u low) (held_before known more u (alignment u) x part (h.stand u low) one) (omega (arith, first)) (omega (arith, last))
 
     one_apart : AreApart (s + 1) more
     one_apart =
@@ -168,7 +162,7 @@ module _ (rows : List InputRow) (fates : List (Option Kept)) where
     pub to : a + row.size ≤ high
 
   lies_below : (r a s low high top : ℕ) → high ≤ top → Lies r a s low high → Lies r a s low top
-  lies_below r a s low high top h l = let to = l.to in record { row = l.row; there = l.there; goes = l.goes; from = l.from; to = omega (arith, h, to) }
+  lies_below r a s low high top h l = record { row = l.row; there = l.there; goes = l.goes; from = l.from; to = omega (arith, h) }
 
   -- it lies in a section with a number below n
   pub record LiesBelow (n : ℕ) (known : Known) (r a : ℕ) : Type 0 where
@@ -181,8 +175,7 @@ module _ (rows : List InputRow) (fates : List (Option Kept)) where
 
   below_grows : (n m : ℕ) (known more : Known) (r a : ℕ) → n ≤ m → IsPart known more → LiesBelow n known r a → LiesBelow m more r a
   below_grows n m known more r a h part l =
-      let below = l.below in
-      record { number = l.number; below = omega (arith, h, below); start = l.start; end = l.end; spans = spans_grow known more l.number l.start l.end part l.spans; lies = l.lies }
+      record { number = l.number; below = omega (arith, h); start = l.start; end = l.end; spans = spans_grow known more l.number l.start l.end part l.spans; lies = l.lies }
 
   -- each row with an address lies in one of the first n sections, or as it is said; no address is one of two rows of a section
   pub record AreWithin (n : ℕ) (Here : ℕ → ℕ → Type 0) (known : Known) : Type 0 where
@@ -287,7 +280,6 @@ module _ (alignment : ℕ → ℕ) (rows : List InputRow) (fates : List (Option 
 
   amid_on : (s : ℕ) (st : State) (n : ℕ) → st.cursor ≤ n → n < 2 ^ 64 → Amid s st → Amid s (record st { cursor = n })
   amid_on s st n on high h =
-      let low = h.low in
       record {
         fresh = h.fresh;
         sections = h.sections;
@@ -295,7 +287,7 @@ module _ (alignment : ℕ → ℕ) (rows : List InputRow) (fates : List (Option 
         starts = h.starts;
         loaded = h.loaded;
         aligned = h.aligned;
-        low = omega (arith, on, low);
+        low = omega (arith, on);
         high = high;
         within = within_on rows fates s s (λ r a. Lies rows fates r a s h.start st.cursor) (λ r a. Lies rows fates r a s h.start n) st.known st.known (omega arith) (λ x m e. e) (λ r. refl)
             (λ r a l. inr (lies_below rows fates r a s h.start st.cursor n on l)) h.within;
@@ -316,27 +308,23 @@ module _ (alignment : ℕ → ℕ) (rows : List InputRow) (fates : List (Option 
 
     new_lies : (n r a : ℕ) → st.cursor + c.size ≤ n → c.row ≡ r → st.cursor ≡ a → Lies rows fates r a s h.start n
     new_lies n r a ends same here =
-        let low = h.low in
-        let size = of.size in
-        subst (λ (m : ℕ). Lies rows fates m a s h.start n) same (record { row = of.row; there = of.there; goes = goes_here; from = omega (arith, here, low); to = omega (arith, here, size, ends) })
+        subst (λ (m : ℕ). Lies rows fates m a s h.start n) same (record { row = of.row; there = of.there; goes = goes_here; from = omega (arith, here); to = omega (arith, here, ends) })
 
     -- a row of this section that was known before lies below the cursor
     old_below : (r x : ℕ) → GoesTo rows fates r s → RowHolds rows st.known r x → st.cursor ≤ x → ⊥
     old_below r x goes holds high = ⊎_elim
-        (λ l. let below = l.below in let same = goes_to_one rows fates r l.number s l.lies.goes goes in omega (arith, below, same))
+        (λ l. let same = goes_to_one rows fates r l.number s l.lies.goes goes in omega (arith, same))
         (λ l. let both : Some l.row ≡ Some holds.row = sym l.there ∙ holds.there in
         let same : l.row ≡ holds.row = cc in
         let size = ap (λ (row : InputRow). row.size) same in
-        let ends = l.to in
-        let to = holds.to in
-        omega (arith, high, to, size, ends))
+        omega (arith, high, size))
         (h.within.lie r holds.address holds.placed)
 
     -- what holds an address held it before, or is the new row
     held_or_new : (r x : ℕ) → RowHolds rows placed r x → RowHolds rows st.known r x ⊎ ((c.row ≡ r) × (st.cursor ≤ x))
     held_or_new r x holds = ⊎_elim
         (λ old. inl (record { row = holds.row; there = holds.there; address = holds.address; placed = old; from = holds.from; to = holds.to }))
-        (λ new. let here = new.1 in let from = holds.from in inr (new.0, omega (arith, here, from)))
+        (λ new. inr (new.0, omega arith))
         (known_or_new r holds.address holds.placed)
 
     -- a row that was known holds none of the addresses from the cursor on
@@ -361,7 +349,6 @@ module _ (alignment : ℕ → ℕ) (rows : List InputRow) (fates : List (Option 
     placed_amid : (n : ℕ) → st.cursor + c.size ≤ n → n < 2 ^ 64 → Amid s (row_at c n st)
     placed_amid n ends high =
         let part = grown_entry (Address c.row) st.cursor st.known in
-        let low = h.low in
         record {
           fresh = fresh_on (Inside s) (Inside s) (Address c.row) st.cursor st.known (λ a ahead. ahead) (is_behind (Inside s) (Address c.row) (λ u below. refl) (λ u below. refl) (λ u below. refl)) h.fresh;
           sections = apart_on alignment s st.known placed part h.sections;
@@ -369,7 +356,7 @@ module _ (alignment : ℕ → ℕ) (rows : List InputRow) (fates : List (Option 
           starts = part (Start s) h.start h.starts;
           loaded = part (Load s) h.start h.loaded;
           aligned = h.aligned;
-          low = omega (arith, low, ends);
+          low = omega (arith, ends);
           high = high;
           within = record {
             lie = λ r a e. ⊎_elim
@@ -384,7 +371,7 @@ module _ (alignment : ℕ → ℕ) (rows : List InputRow) (fates : List (Option 
         }
 
   row_amid : (s : ℕ) (c : ChunkRow) (st next : State) → IsRow rows fates c → c.chunk.«section» ≡ s → Amid s st → row_placed c st ≡ Ok next → Amid s next
-  row_amid s c st next of own h e = by_row (Amid s) c st next e (λ size end up sum fits. let reaches = up.reaches in placed_amid s st h c of own end (omega (arith, reaches, sum)) fits)
+  row_amid s c st next of own h e = by_row (Amid s) c st next e (λ size end up sum fits. placed_amid s st h c of own end (omega (arith, sum)) fits)
 
   pub chunk_amid : (s : ℕ) (q : Chunk) (cs : List ChunkRow) (st next : State) → q.«section» ≡ s → All (IsRowOf rows fates q) cs → chunk_placed cs st ≡ Ok next → Amid s st → Amid s next
   chunk_amid s q cs st next own all e h = by_chunk (Amid s) cs st next e (λ n up goes. by_rows (Amid s) (IsRowOf rows fates q)

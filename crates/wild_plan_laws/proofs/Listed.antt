@@ -103,25 +103,17 @@ module _ (c : Case) (state : State) (f : IsLaid c state) where
   section_stands s place there =
       let is = listed_is s place there in
       let start = is.start in
-      let size = is.size in
-      let forward = is.stands.forward in
-      let below = is.stands.below in
       record {
         aligned = ap (λ (n : ℕ). n % 2 ^ place.alignment) start ∙ is.stands.aligned;
         loaded = is.load ∙ sym start;
-        below = omega (arith, start, size, forward, below);
+        below = omega (arith, start);
       }
 
   -- the addresses that a listed section covers are those that the section holds
   covered_is : (s : ℕ) (place : PlacedSection) (x : ℕ) → slice_get sections s ≡ Some place → Covers place.start place.size x → holding.SectionHolds state.known s x
   covered_is s place x there h =
       let is = listed_is s place there in
-      let start = is.start in
-      let size = is.size in
-      let forward = is.stands.forward in
-      let from = h.0 in
-      let to = h.1 in
-      record { start = is.stands.start; end = is.stands.end; spans = is.stands.spans; from = omega (arith, start, from); to = omega (arith, start, size, forward, to) }
+      record { start = is.stands.start; end = is.stands.end; spans = is.stands.spans; from = omega arith; to = omega arith }
 
   -- ---- rows
 
@@ -155,14 +147,12 @@ module _ (c : Case) (state : State) (f : IsLaid c state) where
       let named = slice_get-get_or (names c) s [] (starts_below c state f s lies.start lies.spans.starts) in
       let start = known_number state.known (Start s) lies.start lies.spans.starts in
       let end = known_number state.known (End s) lies.end lies.spans.ends in
-      let from = lies.from in
-      let to = lies.to in
       record {
         aligned = (rows_stand_in_place c state f r row address there at.placed).aligned;
         place = place_of s (get_or (names c) s []);
         there = ap (λ (xs : List PlacedSection). slice_get xs s) same ∙ section_at s (get_or (names c) s []) named;
-        from = omega (arith, start, from);
-        to = omega (arith, start, end, from, to);
+        from = omega (arith, start);
+        to = omega (arith, start, end);
       }
 
   -- the addresses that a listed row covers are those that the row holds

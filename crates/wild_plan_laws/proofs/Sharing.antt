@@ -32,9 +32,8 @@ module _ (known : Known) (start end : ℕ) where
       }
   chosen n s false lower e h =
       let more = ltb-false (at n) (at s) lower in
-      let below = h.below in
       record {
-        below = omega (arith, below);
+        below = omega arith;
         shared = h.shared;
         lowest = λ u low f. up_to n u (λ v. shares known start end v ≡ true → at s ≤ at v) low (λ before g. h.lowest u before g) (λ g. more) f;
         first = h.first;
@@ -49,9 +48,8 @@ module _ (known : Known) (start end : ℕ) where
     first = λ u low f. shares_not u _ (h u low) f;
   }
   one_more n (Some s) false e h =
-      let below = h.below in
       record {
-        below = omega (arith, below);
+        below = omega arith;
         shared = h.shared;
         lowest = λ u low f. up_to n u (λ v. shares known start end v ≡ true → at s ≤ at v) low (λ before g. h.lowest u before g) (λ g. shares_not n _ e g) f;
         first = h.first;
