@@ -68,7 +68,7 @@ module _ (c : Case) (state : State) (f : IsLaid c state) where
 
   -- a section that starts is one of those that stand
   pub starts_below : (s n : ℕ) → state.known (Start s) ≡ Some n → s < length (names c)
-  starts_below s n e = ⊎_elim (λ lt. lt) (λ le. absurd (not_both (state.known (Start s)) n (all_after.fresh (Start s) le) e)) (cases_lt s (length (names c)))
+  starts_below s n e = ⊎_elim (λ lt. lt) (λ le. absurd (not_both (state.known (Start s)) n (all_after.fresh (Start s) (omega (arith, le))) e)) (cases_lt s (length (names c)))
 
   pub sections_do_not_overlap : (s u x : ℕ) → SectionHolds state.known s x → SectionHolds state.known u x → s ≡ u
   sections_do_not_overlap s u x one other = all_after.sections.apart s u x (starts_below s one.start one.spans.starts) (starts_below u other.start other.spans.starts) one other

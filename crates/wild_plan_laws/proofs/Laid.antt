@@ -3,8 +3,8 @@ use Rattle.std.proofs.Common.{◌≡◌, ◌∙◌, ◌⊎◌, ℕ, ◌+◌, ◌
 use Rattle.std.specs.Prelude.{slice_get}
 use Rattle.std.specs.List.{All}
 use Rattle.std.specs.Option.{option_map}
-use Rattle.std.proofs.lemmas.Bool.{cases_lt, lt-ltb, ne_eqb, eqb-true}
-use Rattle.wild_value_spec.specs.Known.{Known, IsPart, Asked, Start, Load, End, Address, Dot, nothing, number_at, same_asked, with_number}
+use Rattle.std.proofs.lemmas.Bool.{lt-ltb, ne_eqb, eqb-true, and_from, both_ways}
+use Rattle.wild_value_spec.specs.Known.{Known, IsPart, Asked, Start, Load, End, Address, Dot, LoadDot, nothing, number_at, same_asked, with_number}
 use Rattle.wild_plan_spec.specs.declared.chunk.Chunk.{Chunk}
 use Rattle.wild_plan_spec.specs.declared.chunk.ChunkRow.{ChunkRow}
 use Rattle.wild_plan_spec.specs.declared.chunk.Kept.{Kept}
@@ -20,50 +20,39 @@ use Rattle.wild_walk_laws.proofs.Steps.{IsUp, noted_at, opened_at, row_at, ended
 use Rattle.wild_walk_laws.proofs.Walked.{Passes}
 use Rattle.wild_plan_laws.specs.Holding.{RowHolds, SectionHolds, LaidSectionStands, Spans}
 use Rattle.wild_plan_laws.specs.Sharing.{NoneShares}
+use Rattle.wild_plan_laws.proofs.Numbered.{up_to}
 use Rattle.wild_plan_laws.proofs.Sharing.{sharing_is_lowest}
 
 -- ---- what is not known yet
 
--- how many sections have begun, and how many have ended
-abbrev begun : Zone → ℕ
-begun (Free n) = n
-begun (Inside s) = s + 1
+-- when it becomes known: where its section begins or ends; nothing waits for the rest
+abbrev time : Asked → ℕ
+time (Start s) = s + s + 1
+time (Load s) = s + s + 1
+time (End s) = s + s + 2
+time x = 0
 
-abbrev ended : Zone → ℕ
-ended (Free n) = n
-ended (Inside s) = s
-
--- it is asked of a section that has not begun, or not ended
-abbrev IsAhead : Zone → Asked → Type 0
-IsAhead z (Start u) = begun z ≤ u
-IsAhead z (Load u) = begun z ≤ u
-IsAhead z (End u) = ended z ≤ u
-IsAhead z y = ⊥
+-- from when on nothing is known
+abbrev clock : Zone → ℕ
+clock (Free n) = n + n + 1
+clock (Inside s) = s + s + 2
 
 abbrev pub IsFresh : Zone → Known → Type 0
-IsFresh z known = (y : Asked) → IsAhead z y → known y ≡ None
+IsFresh z known = (x : Asked) → clock z ≤ time x → known x ≡ None
 
--- nothing that is ahead asks for that
-abbrev IsBehind : Zone → Asked → Type 0
-IsBehind z x = (y : Asked) → IsAhead z y → same_asked x y ≡ false
-
-is_behind : (z : Zone) (x : Asked) → ((u : ℕ) → begun z ≤ u → same_asked x (Start u) ≡ false) → ((u : ℕ) → begun z ≤ u → same_asked x (Load u) ≡ false)
-    → ((u : ℕ) → ended z ≤ u → same_asked x (End u) ≡ false) → IsBehind z x
-is_behind z x starts loads ends (Start u) ahead = starts u ahead
-is_behind z x starts loads ends (Load u) ahead = loads u ahead
-is_behind z x starts loads ends (End u) ahead = ends u ahead
-is_behind z x starts loads ends y ahead = absurd ahead
+-- what becomes known earlier is another one
+earlier_other : (x y : Asked) → time x < time y → same_asked x y ≡ false
+earlier_other (Start s) (Start u) low = ne_eqb s u (omega (arith, low))
+earlier_other (Load s) (Load u) low = ne_eqb s u (omega (arith, low))
+earlier_other (End s) (End u) low = ne_eqb s u (omega (arith, low))
+earlier_other (Address s) (Address u) low = absurd (omega (arith, low))
+earlier_other (Dot s) (Dot u) low = absurd (omega (arith, low))
+earlier_other (LoadDot s) (LoadDot u) low = absurd (omega (arith, low))
+earlier_other x y low = refl
 
 -- with one more entry
-fresh_on : (y z : Zone) (x : Asked) (n : ℕ) (known : Known) → ((a : Asked) → IsAhead z a → IsAhead y a) → IsBehind z x → IsFresh y known → IsFresh z (with_number x n known)
-fresh_on y z x n known back behind h a ahead = other_entry x n known a (behind a ahead) ∙ h a (back a ahead)
-
--- what is ahead in a section that begins, and between sections behind one that ends
-ahead_back : (y z : Zone) → begun y ≤ begun z → ended y ≤ ended z → (a : Asked) → IsAhead z a → IsAhead y a
-ahead_back y z low high (Start u) ahead = omega (arith, low, ahead)
-ahead_back y z low high (Load u) ahead = omega (arith, low, ahead)
-ahead_back y z low high (End u) ahead = omega (arith, high, ahead)
-ahead_back y z low high a ahead = absurd ahead
+fresh_on : (y z : Zone) (x : Asked) (n : ℕ) (known : Known) → clock y ≤ clock z → time x < clock z → IsFresh y known → IsFresh z (with_number x n known)
+fresh_on y z x n known low past h a ahead = other_entry x n known a (earlier_other x a (omega (arith, past, ahead))) ∙ h a (omega (arith, low, ahead))
 
 -- ---- sections
 
@@ -88,21 +77,16 @@ held_before known more s alignment x part h holds =
     let end = one_number more (End s) h.end holds.end (part (End s) h.end h.spans.ends) holds.spans.ends in
     record { start = h.start; end = h.end; spans = h.spans; from = omega (arith, start); to = omega (arith, end) }
 
-all_four : (a b c d : Bool) → a ≡ true → b ≡ true → c ≡ true → d ≡ true → (a && (b && (c && d))) ≡ false → ⊥
-all_four a b c d p q r s e = let whole : (true && (true && (true && true))) ≡ false = rw (p, q, r, s) at e in cc
-
 -- where a section does not share addresses with one that stands, none is one of both
 shares_none : (known : Known) (s start end x : ℕ) → shares known start end s ≡ false → SectionHolds known s x → start ≤ x → x < end → ⊥
 unfolding shares
 shares_none known s start end x e holds low high =
     let first : number_at known (Start s) ≡ holds.start = known_number known (Start s) holds.start holds.spans.starts in
     let last : number_at known (End s) ≡ holds.end = known_number known (End s) holds.end holds.spans.ends in
-    all_four _ _ _ _
-    (lt-ltb (number_at known (Start s)) (number_at known (End s)) (omega (arith, first, last)))
-    (lt-ltb start end (omega (arith, low, high)))
-    (lt-ltb start (number_at known (End s)) (omega (arith, last, low)))
-    (lt-ltb (number_at known (Start s)) end (omega (arith, first, high)))
-    e
+    both_ways _ e
+    (and_from _ _ (lt-ltb (number_at known (Start s)) (number_at known (End s)) (omega (arith, first, last)))
+    (and_from _ _ (lt-ltb start end (omega (arith, low, high)))
+    (and_from _ _ (lt-ltb start (number_at known (End s)) (omega (arith, last, low))) (lt-ltb (number_at known (Start s)) end (omega (arith, first, high))))))
 
 module _ (alignment : ℕ → ℕ) where
   -- the first n sections stand, and no address is one of two of them
@@ -120,9 +104,6 @@ module _ (alignment : ℕ → ℕ) where
   -- section s stands too, which shares no address with an earlier one
   module _ (s start end : ℕ) (known more : Known) (part : IsPart known more) (alone : NoneShares known start end s)
       (own : LaidSectionStands more s (alignment s)) (spans : Spans more s start end) (h : AreApart s known) where
-    up_to : (u : ℕ) (P : ℕ → Type 0) → u < s + 1 → (u < s → P u) → P s → P u
-    up_to u P low before here = ⊎_elim before (λ le. let same : s ≡ u = omega (arith, low, le) in subst P same here) (cases_lt u s)
-
     own_apart : (u x : ℕ) → u < s → SectionHolds more u x → SectionHolds more s x → ⊥
     own_apart u x low one other =
         let first = one_number more (Start s) start other.start spans.starts other.spans.starts in
@@ -133,10 +114,10 @@ module _ (alignment : ℕ → ℕ) where
     one_apart =
         let on = apart_on s known more part h in
         record {
-          stand = λ u low. up_to u (λ v. LaidSectionStands more v (alignment v)) low (on.stand u) own;
-          apart = λ u v x low high one other. up_to u (λ w. SectionHolds more w x → w ≡ v) low
-              (λ lt holds. up_to v (λ w. SectionHolds more w x → u ≡ w) high (λ below there. on.apart u v x lt below holds there) (λ there. absurd (own_apart u x lt holds there)) other)
-              (λ holds. up_to v (λ w. SectionHolds more w x → s ≡ w) high (λ below there. absurd (own_apart v x below there holds)) (λ there. refl) other)
+          stand = λ u low. up_to s u (λ v. LaidSectionStands more v (alignment v)) (omega (arith, low)) (on.stand u) own;
+          apart = λ u v x low high one other. up_to s u (λ w. SectionHolds more w x → w ≡ v) (omega (arith, low))
+              (λ lt holds. up_to s v (λ w. SectionHolds more w x → u ≡ w) (omega (arith, high)) (λ below there. on.apart u v x lt below holds there) (λ there. absurd (own_apart u x lt holds there)) other)
+              (λ holds. up_to s v (λ w. SectionHolds more w x → s ≡ w) (omega (arith, high)) (λ below there. absurd (own_apart v x below there holds)) (λ there. refl) other)
               one;
         }
 
@@ -228,43 +209,39 @@ module _ (alignment : ℕ → ℕ) (rows : List InputRow) (fates : List (Option 
     within = record { lie = λ r a e. absurd (cc); apart = λ s p r x f g h. let placed = h.placed in absurd (cc) };
   }
 
-  dot_behind : (z : Zone) (i : ℕ) → IsBehind z (Dot i)
-  dot_behind z i = is_behind z (Dot i) (λ u low. refl) (λ u low. refl) (λ u low. refl)
+  -- it goes on in a section, where more is known, and rows lie below the cursor
+  amid_on : (s : ℕ) (st next : State) → IsPart st.known next.known → IsFresh (Inside s) next.known → st.cursor ≤ next.cursor → next.cursor < 2 ^ 64
+      → (h : Amid s st) → AreWithin rows fates s (λ r a. Lies rows fates r a s h.start next.cursor) next.known → Amid s next
+  amid_on s st next part fresh on high h within = record {
+    fresh = fresh;
+    sections = apart_on alignment s st.known next.known part h.sections;
+    start = h.start;
+    starts = part (Start s) h.start h.starts;
+    loaded = part (Load s) h.start h.loaded;
+    aligned = h.aligned;
+    low = omega (arith, on);
+    high = high;
+    within = within;
+  }
 
   noted : (z : Zone) (i n : ℕ) (st : State) → Stands z st → Stands z (noted_at i n st)
-  noted (Free m) i n st h =
-      let part = grown_entry (Dot i) n st.known in
-      record {
-        fresh = fresh_on (Free m) (Free m) (Dot i) n st.known (λ a ahead. ahead) (dot_behind (Free m) i) h.fresh;
-        sections = apart_on alignment m st.known (noted_at i n st).known part h.sections;
-        within = within_on rows fates m m (λ r a. ⊥) (λ r a. ⊥) st.known (noted_at i n st).known (omega arith) part (λ r. other_entry (Dot i) n st.known (Address r) refl) (λ r a l. inr l) h.within;
-      }
+  noted (Free m) i n st h = record {
+    fresh = fresh_on (Free m) (Free m) (Dot i) n st.known (omega arith) (omega arith) h.fresh;
+    sections = apart_on alignment m st.known (noted_at i n st).known (grown_entry (Dot i) n st.known) h.sections;
+    within = within_on rows fates m m (λ r a. ⊥) (λ r a. ⊥) st.known (noted_at i n st).known (omega arith) (grown_entry (Dot i) n st.known) (λ r. other_entry (Dot i) n st.known (Address r) refl) (λ r a l. inr l) h.within;
+  }
   noted (Inside s) i n st h =
       let part = grown_entry (Dot i) n st.known in
-      record {
-        fresh = fresh_on (Inside s) (Inside s) (Dot i) n st.known (λ a ahead. ahead) (dot_behind (Inside s) i) h.fresh;
-        sections = apart_on alignment s st.known (noted_at i n st).known part h.sections;
-        start = h.start;
-        starts = part (Start s) h.start h.starts;
-        loaded = part (Load s) h.start h.loaded;
-        aligned = h.aligned;
-        low = h.low;
-        high = h.high;
-        within = within_on rows fates s s (λ r a. Lies rows fates r a s h.start st.cursor) (λ r a. Lies rows fates r a s h.start st.cursor) st.known (noted_at i n st).known (omega arith) part
-            (λ r. other_entry (Dot i) n st.known (Address r) refl) (λ r a l. inr l) h.within;
-      }
+      amid_on s st (noted_at i n st) part (fresh_on (Inside s) (Inside s) (Dot i) n st.known (omega arith) (omega arith) h.fresh) (omega arith) h.high h
+      (within_on rows fates s s _ (λ r a. Lies rows fates r a s h.start st.cursor) st.known (noted_at i n st).known (omega arith) part (λ r. other_entry (Dot i) n st.known (Address r) refl) (λ r a l. inr l) h.within)
 
-  -- ---- a section begins
-
+  -- a section begins
   opened : (s n : ℕ) (st : State) → IsUp st.counter (alignment s) n → After s st.known → Amid s (opened_at s n st)
   opened s n st up h =
       let begins = with_number (Start s) n st.known in
       let part : IsPart st.known (opened_at s n st).known = λ x m e. grown_entry (Load s) n begins x m (grown_entry (Start s) n st.known x m e) in
       record {
-        fresh = fresh_on (Inside s) (Inside s) (Load s) n begins (λ a ahead. ahead)
-            (is_behind (Inside s) (Load s) (λ u low. refl) (λ u low. ne_eqb s u (omega (arith, low))) (λ u low. refl))
-            (fresh_on (Free s) (Inside s) (Start s) n st.known (ahead_back (Free s) (Inside s) (omega arith) (omega arith))
-            (is_behind (Inside s) (Start s) (λ u low. ne_eqb s u (omega (arith, low))) (λ u low. refl) (λ u low. refl)) h.fresh);
+        fresh = fresh_on (Inside s) (Inside s) (Load s) n begins (omega arith) (omega arith) (fresh_on (Free s) (Inside s) (Start s) n st.known (omega arith) (omega arith) h.fresh);
         sections = apart_on alignment s st.known (opened_at s n st).known part h.sections;
         start = n;
         starts = other_entry (Load s) n begins (Start s) refl ∙ new_entry (Start s) n st.known (h.fresh (Start s) (omega arith));
@@ -276,22 +253,10 @@ module _ (alignment : ℕ → ℕ) (rows : List InputRow) (fates : List (Option 
             (λ r. other_entry (Load s) n begins (Address r) refl ∙ other_entry (Start s) n st.known (Address r) refl) (λ r a l. absurd l) h.within;
       }
 
-  -- ---- the cursor goes on
-
-  amid_on : (s : ℕ) (st : State) (n : ℕ) → st.cursor ≤ n → n < 2 ^ 64 → Amid s st → Amid s (record st { cursor = n })
-  amid_on s st n on high h =
-      record {
-        fresh = h.fresh;
-        sections = h.sections;
-        start = h.start;
-        starts = h.starts;
-        loaded = h.loaded;
-        aligned = h.aligned;
-        low = omega (arith, on);
-        high = high;
-        within = within_on rows fates s s (λ r a. Lies rows fates r a s h.start st.cursor) (λ r a. Lies rows fates r a s h.start n) st.known st.known (omega arith) (λ x m e. e) (λ r. refl)
-            (λ r a l. inr (lies_below rows fates r a s h.start st.cursor n on l)) h.within;
-      }
+  -- the cursor goes on
+  raised : (s : ℕ) (st : State) (n : ℕ) → st.cursor ≤ n → n < 2 ^ 64 → Amid s st → Amid s (record st { cursor = n })
+  raised s st n on high h = amid_on s st (record st { cursor = n }) (λ x m e. e) h.fresh on high h
+      (within_on rows fates s s _ (λ r a. Lies rows fates r a s h.start n) st.known st.known (omega arith) (λ x m e. e) (λ r. refl) (λ r a l. inr (lies_below rows fates r a s h.start st.cursor n on l)) h.within)
 
   -- ---- a row is placed
 
@@ -349,26 +314,16 @@ module _ (alignment : ℕ → ℕ) (rows : List InputRow) (fates : List (Option 
     placed_amid : (n : ℕ) → st.cursor + c.size ≤ n → n < 2 ^ 64 → Amid s (row_at c n st)
     placed_amid n ends high =
         let part = grown_entry (Address c.row) st.cursor st.known in
-        record {
-          fresh = fresh_on (Inside s) (Inside s) (Address c.row) st.cursor st.known (λ a ahead. ahead) (is_behind (Inside s) (Address c.row) (λ u below. refl) (λ u below. refl) (λ u below. refl)) h.fresh;
-          sections = apart_on alignment s st.known placed part h.sections;
-          start = h.start;
-          starts = part (Start s) h.start h.starts;
-          loaded = part (Load s) h.start h.loaded;
-          aligned = h.aligned;
-          low = omega (arith, ends);
-          high = high;
-          within = record {
-            lie = λ r a e. ⊎_elim
-                (λ old. ⊎_elim
-                (λ l. inl (below_grows rows fates s s st.known placed r a (omega arith) part l))
-                (λ l. inr (lies_below rows fates r a s h.start st.cursor n (omega (arith, ends)) l))
-                (h.within.lie r a old))
-                (λ new. inr (new_lies n r a ends new.0 new.1))
-                (known_or_new r a e);
-            apart = placed_apart;
-          };
-        }
+        amid_on s st (row_at c n st) part (fresh_on (Inside s) (Inside s) (Address c.row) st.cursor st.known (omega arith) (omega arith) h.fresh) (omega (arith, ends)) high h (record {
+          lie = λ r a e. ⊎_elim
+              (λ old. ⊎_elim
+              (λ l. inl (below_grows rows fates s s st.known placed r a (omega arith) part l))
+              (λ l. inr (lies_below rows fates r a s h.start st.cursor n (omega (arith, ends)) l))
+              (h.within.lie r a old))
+              (λ new. inr (new_lies n r a ends new.0 new.1))
+              (known_or_new r a e);
+          apart = placed_apart;
+        })
 
   row_amid : (s : ℕ) (c : ChunkRow) (st next : State) → IsRow rows fates c → c.chunk.«section» ≡ s → Amid s st → row_placed c st ≡ Ok next → Amid s next
   row_amid s c st next of own h e = by_row (Amid s) c st next e (λ size end up sum fits. placed_amid s st h c of own end (omega (arith, sum)) fits)
@@ -376,7 +331,7 @@ module _ (alignment : ℕ → ℕ) (rows : List InputRow) (fates : List (Option 
   pub chunk_amid : (s : ℕ) (q : Chunk) (cs : List ChunkRow) (st next : State) → q.«section» ≡ s → All (IsRowOf rows fates q) cs → chunk_placed cs st ≡ Ok next → Amid s st → Amid s next
   chunk_amid s q cs st next own all e h = by_chunk (Amid s) cs st next e (λ n up goes. by_rows (Amid s) (IsRowOf rows fates q)
       (λ c u v of amid step. row_amid s c u v of.0 (ap (λ (k : Chunk). k.«section») of.1 ∙ own) amid step)
-      cs (record st { cursor = n }) next all (amid_on s st n up.reaches up.fits h) goes)
+      cs (record st { cursor = n }) next all (raised s st n up.reaches up.fits h) goes)
 
   -- ---- a section ends
 
@@ -389,8 +344,7 @@ module _ (alignment : ℕ → ℕ) (rows : List InputRow) (fates : List (Option 
       let spans : Spans known s h.start st.cursor = record { starts = part (Start s) h.start h.starts; ends = new_entry (End s) st.cursor st.known (h.fresh (End s) (omega arith)) } in
       let own : LaidSectionStands known s (alignment s) = record { start = h.start; end = st.cursor; spans = spans; aligned = h.aligned; loaded = part (Load s) h.start h.loaded; forward = h.low; below = h.high } in
       record {
-        fresh = fresh_on (Inside s) (Free (s + 1)) (End s) st.cursor st.known (ahead_back (Inside s) (Free (s + 1)) (omega arith) (omega arith))
-            (is_behind (Free (s + 1)) (End s) (λ u low. refl) (λ u low. refl) (λ u low. ne_eqb s u (omega (arith, low)))) h.fresh;
+        fresh = fresh_on (Inside s) (Free (s + 1)) (End s) st.cursor st.known (omega arith) (omega arith) h.fresh;
         sections = one_apart alignment s h.start st.cursor st.known known part alone own spans h.sections;
         within = within_on rows fates s (s + 1) (λ r a. Lies rows fates r a s h.start st.cursor) (λ r a. ⊥) st.known known (omega arith) part (λ r. other_entry (End s) st.cursor st.known (Address r) refl)
             (λ r a l. inl (record { number = s; below = omega arith; start = h.start; end = st.cursor; spans = spans; lies = l })) h.within;

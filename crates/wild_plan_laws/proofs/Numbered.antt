@@ -1,6 +1,7 @@
 -- Lists that are made element by element, each with its number.
-use Rattle.std.proofs.Common.{◌≡◌, ◌∙◌, ℕ, zero, suc, ◌+◌, ◌<◌, Bool, true, false, cond, List, [], ◌∷◌, length, Option, Some, None, refl, ap, arith}
+use Rattle.std.proofs.Common.{◌≡◌, ◌∙◌, ℕ, zero, suc, ◌+◌, ◌<◌, ◌≤◌, Bool, true, false, cond, List, [], ◌∷◌, length, Option, Some, None, refl, ap, subst, ⊎_elim, arith}
 use Rattle.std.specs.Prelude.{slice_get}
+use Rattle.std.proofs.lemmas.Bool.{cases_lt}
 use Rattle.std.specs.List.{position_from}
 use Rattle.std.specs.Option.{option_map}
 
@@ -19,7 +20,11 @@ pub made_of : {A B : Type 0} (f : A → B) (o : Option A) (y : B) → option_map
 made_of f None y e = absurd (cc)
 made_of f (Some x) y e = (x, refl, cc)
 
--- ---- the numbers of elements
+-- ---- numbers
+
+-- a number up to n is below it, or it is n
+pub up_to : (n u : ℕ) (P : ℕ → Type 0) → u ≤ n → (u < n → P u) → P n → P u
+up_to n u P low before here = ⊎_elim before (λ le. let same : n ≡ u = omega (arith, low, le) in subst P same here) (cases_lt u n)
 
 position_by : (b : Bool) (n m s : ℕ) (o : Option ℕ) → (o ≡ Some s → s < n + 1 + m) → cond b (Some n) o ≡ Some s → s < n + suc m
 position_by true n m s o h e = let same : n ≡ s = cc in omega (arith, same)

@@ -3,6 +3,7 @@ use Rattle.std.proofs.Common.{◌≡◌, ℕ, zero, suc, ◌<◌, ◌≤◌, Boo
 use Rattle.std.proofs.lemmas.Bool.{cases_lt, cases_order, ltb-true, ltb-false, both_ways}
 use Rattle.wild_value_spec.specs.Known.{Known, Start, number_at}
 use Rattle.wild_plan_spec.specs.Overlaps.{shares, lower_section, lowest_sharing}
+use Rattle.wild_plan_laws.proofs.Numbered.{up_to}
 use Rattle.wild_plan_laws.specs.Sharing.{NoneShares, IsLowest, SharingIsLowest}
 
 module _ (known : Known) (start end : ℕ) where
@@ -12,10 +13,6 @@ module _ (known : Known) (start end : ℕ) where
   abbrev Found : ℕ → Option ℕ → Type 0
   Found n None = NoneShares known start end n
   Found n (Some s) = IsLowest known start end n s
-
-  -- a section with a number up to n is an earlier one, or it is n
-  up_to : (n u : ℕ) (P : ℕ → Type 0) → u < suc n → (u < n → P u) → P n → P u
-  up_to n u P low before here = ⊎_elim before (λ le. let same : n ≡ u = omega (arith, low, le) in subst P same here) (cases_lt u n)
 
   shares_not : (u : ℕ) (P : Type 0) → shares known start end u ≡ false → shares known start end u ≡ true → P
   shares_not u P e f = absurd (both_ways (shares known start end u) e f)
@@ -27,7 +24,7 @@ module _ (known : Known) (start end : ℕ) where
       record {
         below = omega arith;
         shared = e;
-        lowest = λ u low f. up_to n u (λ v. shares known start end v ≡ true → at n ≤ at v) low (λ before g. let least = h.lowest u before g in omega (arith, less, least)) (λ g. omega arith) f;
+        lowest = λ u low f. up_to n u (λ v. shares known start end v ≡ true → at n ≤ at v) (omega (arith, low)) (λ before g. let least = h.lowest u before g in omega (arith, less, least)) (λ g. omega arith) f;
         first = λ u low f. let least = h.lowest u low f in omega (arith, less, least);
       }
   chosen n s false lower e h =
@@ -35,23 +32,23 @@ module _ (known : Known) (start end : ℕ) where
       record {
         below = omega arith;
         shared = h.shared;
-        lowest = λ u low f. up_to n u (λ v. shares known start end v ≡ true → at s ≤ at v) low (λ before g. h.lowest u before g) (λ g. more) f;
+        lowest = λ u low f. up_to n u (λ v. shares known start end v ≡ true → at s ≤ at v) (omega (arith, low)) (λ before g. h.lowest u before g) (λ g. more) f;
         first = h.first;
       }
 
   one_more : (n : ℕ) (o : Option ℕ) (b : Bool) → shares known start end n ≡ b → Found n o → Found (suc n) (lower_section known o (cond b (Some n) None))
-  one_more n None false e h = λ u low. up_to n u (λ v. shares known start end v ≡ false) low (λ before. h u before) e
+  one_more n None false e h = λ u low. up_to n u (λ v. shares known start end v ≡ false) (omega (arith, low)) (λ before. h u before) e
   one_more n None true e h = record {
     below = omega arith;
     shared = e;
-    lowest = λ u low f. up_to n u (λ v. shares known start end v ≡ true → at n ≤ at v) low (λ before g. shares_not u _ (h u before) g) (λ g. omega arith) f;
+    lowest = λ u low f. up_to n u (λ v. shares known start end v ≡ true → at n ≤ at v) (omega (arith, low)) (λ before g. shares_not u _ (h u before) g) (λ g. omega arith) f;
     first = λ u low f. shares_not u _ (h u low) f;
   }
   one_more n (Some s) false e h =
       record {
         below = omega arith;
         shared = h.shared;
-        lowest = λ u low f. up_to n u (λ v. shares known start end v ≡ true → at s ≤ at v) low (λ before g. h.lowest u before g) (λ g. shares_not n _ e g) f;
+        lowest = λ u low f. up_to n u (λ v. shares known start end v ≡ true → at s ≤ at v) (omega (arith, low)) (λ before g. h.lowest u before g) (λ g. shares_not n _ e g) f;
         first = h.first;
       }
   one_more n (Some s) true e h = chosen n s (nat_lt (at n) (at s)) refl e h
