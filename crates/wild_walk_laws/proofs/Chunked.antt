@@ -71,9 +71,8 @@ module _ (P : ChunkRow → Type 0) where
   row_kept n (first ∷ rows) (None ∷ fates) zero row k e f h = absurd (cc)
   row_kept n (first ∷ rows) (Some kept ∷ fates) zero row k e f h =
       let z : n + 0 ≡ n = omega arith in
-      let same : row ≡ first = cc in
-      let alike : k ≡ kept = cc in
-      inl (subst (λ i. P (chunk_row i first kept)) z (subst (λ x. P (chunk_row (n + 0) first x)) alike (subst (λ x. P (chunk_row (n + 0) x k)) same h)))
+      let same : chunk_row (n + 0) row k ≡ chunk_row n first kept = cc in
+      inl (subst P same h)
   row_kept n (first ∷ rows) (None ∷ fates) (suc i) row k e f h =
       let z : n + suc i ≡ n + 1 + i = omega arith in
       row_kept (n + 1) rows fates i row k e f (subst (λ j. P (chunk_row j row k)) z h)
