@@ -65,10 +65,9 @@ module _ (rows : List InputRow) (fates : List (Option Kept)) where
       let same : of.row ≡ row = cc in
       let alignment : c.alignment.0 ≡ alignment_of row = of.alignment ∙ ap alignment_of same in
       let sizes : c.size ≡ row.size = of.size ∙ ap (λ (i : InputRow). i.size) same in
-      let here = new.1 in
       record {
         aligned = ap (λ (n : ℕ). n % 2 ^ alignment_of row) (sym new.1) ∙ ap (λ (e : ℕ). cursor % 2 ^ e) (sym alignment) ∙ fits;
-        ends = omega (arith, sizes, here, big, ends);
+        ends = omega (arith, sizes, big, ends);
       })
       (entry_is (Address c.row) cursor known (Address r) a at)
 

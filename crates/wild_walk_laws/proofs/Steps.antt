@@ -52,8 +52,7 @@ up_is x e n h =
     let chosen = chosen_ok _ _ _ _ h in
     let rounded = is_rounded_up e x n (sym chosen.1) in
     let fits = ltb-true (rounded_up (2 ^ e) x) (2 ^ 64) chosen.0 in
-    let same = chosen.1 in
-    record { multiple = rounded.multiple; reaches = rounded.reaches; fits = omega (arith, fits, same) }
+    record { multiple = rounded.multiple; reaches = rounded.reaches; fits = omega (arith, fits) }
 
 sum_is : (a b n : ℕ) → sum_of a b ≡ Ok n → (n ≡ a + b) × (n < 2 ^ 64)
 unfolding sum_of
