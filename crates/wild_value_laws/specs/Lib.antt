@@ -1,1 +1,2 @@
+pub mod Related
 pub mod Stable
