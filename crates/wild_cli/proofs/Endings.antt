@@ -3,6 +3,7 @@ use Rattle.std.proofs.Common.{◌≡◌, ◌∙◌, sym, ap, refl, ℕ, ◌≤�
 use Rattle.std.proofs.lemmas.Bool.{le-ltb}
 use Rattle.std.proofs.lemmas.List.{append-nil}
 use Rattle.wild_names.specs.declared.fault.Fault as f
+use Rattle.wild_plan_spec.specs.declared.options.PlanOptions.{PlanOptions}
 use Rattle.wild_plan_spec.specs.declared.row.InputTable.{InputTable}
 use Rattle.wild_plan_spec.specs.Fit.{IsThePlan, IsTheFault}
 use Rattle.wild_plan_spec.specs.Layout.{Layout}
@@ -12,6 +13,7 @@ use Rattle.wild_cli.specs.Answers.{LoadTold, Plans}
 use Rattle.wild_cli.specs.Device.{Got, max_length}
 use Rattle.wild_cli.specs.Due.{Answer, PlanOf, is_too_long, task_of_script, MeetsPlan, Agree, Settles}
 use Rattle.wild_cli.specs.Run.{Loading, Putting, HasCause, Ends, Told, Wrote}
+use Rattle.wild_cli.specs.Words.{plain_options}
 use Rattle.wild_table.specs.Table.{table}
 use Rattle.wild_cli.specs.declared.words.Request.{Request}
 use Rattle.wild_cli.specs.declared.words.Request.TheVariants.{Plan}
@@ -20,31 +22,31 @@ use Rattle.wild_cli.specs.declared.refusal.Refusal.TheVariants.{Fault, Usage, No
 
 -- ---- answers that settle a task
 
-text_agrees : (script : List ℕ) (inputs : InputTable) (plan : Layout) (text : List ℕ) → IsThePlan script inputs plan → text ≡ plan_text plan
-    → (other : Answer) → MeetsPlan script inputs other → Agree other (Ok text)
-text_agrees script inputs plan text is e (Ok another) meets = inl (ap (λ (l : List ℕ). Ok l) (meets.2 ∙ ap plan_text (is.only meets.0 meets.1) ∙ sym e))
-text_agrees script inputs plan text is e (Err (Fault fault)) meets = absurd (is.no_fault fault meets)
-text_agrees script inputs plan text is e (Err Usage) meets = absurd meets
-text_agrees script inputs plan text is e (Err (NotLoaded name)) meets = absurd meets
-text_agrees script inputs plan text is e (Err NoMemory) meets = absurd meets
-text_agrees script inputs plan text is e (Err (BadRecord index)) meets = absurd meets
-text_agrees script inputs plan text is e (Err (TooLong name)) meets = absurd meets
+text_agrees : (script : List ℕ) (inputs : InputTable) (options : PlanOptions) (plan : Layout) (text : List ℕ) → IsThePlan script inputs options plan → text ≡ plan_text plan
+    → (other : Answer) → MeetsPlan script inputs options other → Agree other (Ok text)
+text_agrees script inputs options plan text is e (Ok another) meets = inl (ap (λ (l : List ℕ). Ok l) (meets.2 ∙ ap plan_text (is.only meets.0 meets.1) ∙ sym e))
+text_agrees script inputs options plan text is e (Err (Fault fault)) meets = absurd (is.no_fault fault meets)
+text_agrees script inputs options plan text is e (Err Usage) meets = absurd meets
+text_agrees script inputs options plan text is e (Err (NotLoaded name)) meets = absurd meets
+text_agrees script inputs options plan text is e (Err NoMemory) meets = absurd meets
+text_agrees script inputs options plan text is e (Err (BadRecord index)) meets = absurd meets
+text_agrees script inputs options plan text is e (Err (TooLong name)) meets = absurd meets
 
-fault_agrees : (script : List ℕ) (inputs : InputTable) (fault : f.Fault) → IsTheFault script inputs fault
-    → (other : Answer) → MeetsPlan script inputs other → Agree other (Err (Fault fault))
-fault_agrees script inputs fault is (Ok text) meets = absurd (is.none_fits meets.0 meets.1)
-fault_agrees script inputs fault is (Err (Fault other)) meets = inr (other, fault, refl, refl)
-fault_agrees script inputs fault is (Err Usage) meets = absurd meets
-fault_agrees script inputs fault is (Err (NotLoaded name)) meets = absurd meets
-fault_agrees script inputs fault is (Err NoMemory) meets = absurd meets
-fault_agrees script inputs fault is (Err (BadRecord index)) meets = absurd meets
-fault_agrees script inputs fault is (Err (TooLong name)) meets = absurd meets
+fault_agrees : (script : List ℕ) (inputs : InputTable) (options : PlanOptions) (fault : f.Fault) → IsTheFault script inputs options fault
+    → (other : Answer) → MeetsPlan script inputs options other → Agree other (Err (Fault fault))
+fault_agrees script inputs options fault is (Ok text) meets = absurd (is.none_fits meets.0 meets.1)
+fault_agrees script inputs options fault is (Err (Fault other)) meets = inr (other, fault, refl, refl)
+fault_agrees script inputs options fault is (Err Usage) meets = absurd meets
+fault_agrees script inputs options fault is (Err (NotLoaded name)) meets = absurd meets
+fault_agrees script inputs options fault is (Err NoMemory) meets = absurd meets
+fault_agrees script inputs options fault is (Err (BadRecord index)) meets = absurd meets
+fault_agrees script inputs options fault is (Err (TooLong name)) meets = absurd meets
 
-text_settles : (script : List ℕ) (inputs : InputTable) (text : List ℕ) → Plans script inputs (Ok text) → Settles (PlanOf script inputs) (Ok text)
-text_settles script inputs text h = record { meets = (h.0, h.1.is, h.2); only = text_agrees script inputs h.0 text h.1 h.2 }
+text_settles : (script : List ℕ) (inputs : InputTable) (options : PlanOptions) (text : List ℕ) → Plans script inputs options (Ok text) → Settles (PlanOf script inputs options) (Ok text)
+text_settles script inputs options text h = record { meets = (h.0, h.1.is, h.2); only = text_agrees script inputs options h.0 text h.1 h.2 }
 
-fault_settles : (script : List ℕ) (inputs : InputTable) (fault : f.Fault) → IsTheFault script inputs fault → Settles (PlanOf script inputs) (Err (Fault fault))
-fault_settles script inputs fault h = record { meets = h.is; only = fault_agrees script inputs fault h }
+fault_settles : (script : List ℕ) (inputs : InputTable) (options : PlanOptions) (fault : f.Fault) → IsTheFault script inputs options fault → Settles (PlanOf script inputs options) (Err (Fault fault))
+fault_settles script inputs options fault h = record { meets = h.is; only = fault_agrees script inputs options fault h }
 
 -- ---- what a told script and table ask for
 
@@ -53,7 +55,7 @@ fits content h = le-ltb max_length (length content) h
 
 -- both files were loaded, and the table was read
 due_plan : (script name : Name) (sc tc : Option (List ℕ)) (a b : List ℕ) (inputs : InputTable) (answer : Answer)
-    → LoadTold sc a → LoadTold tc b → table b ≡ Ok inputs → Settles (PlanOf a inputs) answer
+    → LoadTold sc a → LoadTold tc b → table b ≡ Ok inputs → Settles (PlanOf a inputs plain_options) answer
     → IfSome (task_of_script script sc name tc) (λ task. Settles task answer)
 due_plan script name None tc a b inputs answer ha hb ht h = tt
 due_plan script name (Some x) None a b inputs answer ha hb ht h = rw (fits x ha.1) tt
@@ -63,10 +65,10 @@ due_plan script name (Some x) (Some y) a b inputs answer ha hb ht h = rw (fits x
 
 module _ (held : Name → Option (List ℕ)) (script name : Name) (files : Loading) where
   pub planned : (a b : List ℕ) (inputs : InputTable) (answer : Answer)
-      → LoadTold (held script) a → LoadTold (held name) b → table b ≡ Ok inputs → Plans a inputs answer
+      → LoadTold (held script) a → LoadTold (held name) b → table b ≡ Ok inputs → Plans a inputs plain_options answer
       → HasCause held (Some (Plan script name)) files answer
-  planned a b inputs (Ok text) ha hb ht h = record { asked = refl; settles = due_plan script name (held script) (held name) a b inputs _ ha hb ht (text_settles a inputs text h) }
-  planned a b inputs (Err (Fault fault)) ha hb ht h = record { asked = refl; settles = due_plan script name (held script) (held name) a b inputs _ ha hb ht (fault_settles a inputs fault h) }
+  planned a b inputs (Ok text) ha hb ht h = record { asked = refl; settles = due_plan script name (held script) (held name) a b inputs _ ha hb ht (text_settles a inputs plain_options text h) }
+  planned a b inputs (Err (Fault fault)) ha hb ht h = record { asked = refl; settles = due_plan script name (held script) (held name) a b inputs _ ha hb ht (fault_settles a inputs plain_options fault h) }
   planned a b inputs (Err NoMemory) ha hb ht h = tt
   planned a b inputs (Err Usage) ha hb ht h = absurd h
   planned a b inputs (Err (NotLoaded other)) ha hb ht h = absurd h

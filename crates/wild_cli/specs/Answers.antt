@@ -1,6 +1,7 @@
 -- What the parts of a run answer.
 use Rattle.std.specs.Prelude.{◌≡◌, ◌<◌, ◌≤◌, ℕ, List, length, Option, Some, IfSome, Result, Ok, Err, Vec, ⊤}
 use Rattle.std.specs.declared.alloc.Global.{Global}
+use Rattle.wild_plan_spec.specs.declared.options.PlanOptions.{PlanOptions}
 use Rattle.wild_plan_spec.specs.declared.row.InputTable.{InputTable}
 use Rattle.wild_plan_spec.specs.Fit.{IsThePlan, IsTheFault}
 use Rattle.wild_plan_spec.specs.Layout.{Layout}
@@ -11,19 +12,19 @@ use Rattle.wild_cli.specs.Due.{Answer}
 use Rattle.wild_cli.specs.declared.refusal.Refusal as r
 use Rattle.wild_cli.specs.declared.refusal.Refusal.TheVariants.{Fault, Usage, NotLoaded, NoMemory, BadRecord, TooLong}
 
--- the text of the one plan that fits, or the fault, unless memory ran out
-abbrev pub PlanRefused : List ℕ → InputTable → r.Refusal → Type 0
-PlanRefused script inputs (Fault fault) = IsTheFault script inputs fault
-PlanRefused script inputs NoMemory = ⊤
-PlanRefused script inputs Usage = ⊥
-PlanRefused script inputs (NotLoaded name) = ⊥
-PlanRefused script inputs (BadRecord index) = ⊥
-PlanRefused script inputs (TooLong name) = ⊥
+-- the fault, unless memory ran out
+abbrev pub PlanRefused : List ℕ → InputTable → PlanOptions → r.Refusal → Type 0
+PlanRefused script inputs options (Fault fault) = IsTheFault script inputs options fault
+PlanRefused script inputs options NoMemory = ⊤
+PlanRefused script inputs options Usage = ⊥
+PlanRefused script inputs options (NotLoaded name) = ⊥
+PlanRefused script inputs options (BadRecord index) = ⊥
+PlanRefused script inputs options (TooLong name) = ⊥
 
 -- the text of the one plan that fits, or why there is none
-abbrev pub Plans : List ℕ → InputTable → Answer → Type 0
-Plans script inputs (Ok text) = (plan : Layout) × IsThePlan script inputs plan × (text ≡ plan_text plan)
-Plans script inputs (Err why) = PlanRefused script inputs why
+abbrev pub Plans : List ℕ → InputTable → PlanOptions → Answer → Type 0
+Plans script inputs options (Ok text) = (plan : Layout) × IsThePlan script inputs options plan × (text ≡ plan_text plan)
+Plans script inputs options (Err why) = PlanRefused script inputs options why
 
 -- the content of a file of this name, or a refusal, and what the counts then show
 abbrev pub LoadRefused : Name → Option (List ℕ) → r.Refusal → Type 0

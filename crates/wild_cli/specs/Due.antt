@@ -1,6 +1,7 @@
 -- What the words and the told files ask for, and which answers meet that.
 use Rattle.std.specs.Prelude.{◌≡◌, ◌⊎◌, ℕ, Bool, nat_lt, List, length, Option, Some, None, IfSome, IsSome, Result, Ok, Err, if◌then◌else◌}
 use Rattle.wild_names.specs.declared.fault.Fault as f
+use Rattle.wild_plan_spec.specs.declared.options.PlanOptions.{PlanOptions}
 use Rattle.wild_plan_spec.specs.declared.row.InputTable.{InputTable}
 use Rattle.wild_plan_spec.specs.Fit.{IsPlan, IsFault}
 use Rattle.wild_plan_spec.specs.Layout.{Layout}
@@ -8,6 +9,7 @@ use Rattle.wild_plan_spec.specs.Names.{Name}
 use Rattle.wild_plan_spec.specs.Text.{plan_text}
 use Rattle.wild_cli.specs.Device.{max_length}
 use Rattle.wild_cli.specs.Refusal.{status_of}
+use Rattle.wild_cli.specs.Words.{plain_options}
 use Rattle.wild_table.specs.Table.{table}
 use Rattle.wild_cli.specs.declared.words.Request.{Request}
 use Rattle.wild_cli.specs.declared.words.Request.TheVariants.{Plan}
@@ -20,12 +22,13 @@ Answer = Result (List ℕ) r.Refusal
 
 -- ---- tasks
 
--- what is asked for: nothing, a file that is too long, a table with a bad record, or the plan of a script over a table
+-- what is asked for: nothing, a file that is too long, a table with a bad record, or the plan of a script over a table, made
+-- for these options
 pub data Task : Type 0 where
   NoCommand : Task
   LongFile : Name → Task
   BadTable : ℕ → Task
-  PlanOf : List ℕ → InputTable → Task
+  PlanOf : List ℕ → InputTable → PlanOptions → Task
 
 -- the content is longer than a file may be
 abbrev pub is_too_long : List ℕ → Bool
@@ -33,7 +36,7 @@ is_too_long content = nat_lt max_length (length content)
 
 -- the script is at hand, and this is what its table says
 abbrev pub task_of_inputs : List ℕ → Result InputTable ℕ → Task
-task_of_inputs script (Ok inputs) = PlanOf script inputs
+task_of_inputs script (Ok inputs) = PlanOf script inputs plain_options
 task_of_inputs script (Err index) = BadTable index
 
 -- the script is at hand; the table is this, where it is told
@@ -54,21 +57,21 @@ task_of held (Some (Plan script name)) = task_of_script script (held script) nam
 -- ---- answers
 
 -- a text is that of a plan that fits, and a fault is one of the script and the table
-abbrev pub MeetsPlan : List ℕ → InputTable → Answer → Type 0
-MeetsPlan script inputs (Ok text) = (plan : Layout) × IsPlan script inputs plan × (text ≡ plan_text plan)
-MeetsPlan script inputs (Err (refusal.Fault fault)) = IsFault script inputs fault
-MeetsPlan script inputs (Err refusal.Usage) = ⊥
-MeetsPlan script inputs (Err (refusal.NotLoaded name)) = ⊥
-MeetsPlan script inputs (Err refusal.NoMemory) = ⊥
-MeetsPlan script inputs (Err (refusal.BadRecord index)) = ⊥
-MeetsPlan script inputs (Err (refusal.TooLong name)) = ⊥
+abbrev pub MeetsPlan : List ℕ → InputTable → PlanOptions → Answer → Type 0
+MeetsPlan script inputs options (Ok text) = (plan : Layout) × IsPlan script inputs options plan × (text ≡ plan_text plan)
+MeetsPlan script inputs options (Err (refusal.Fault fault)) = IsFault script inputs options fault
+MeetsPlan script inputs options (Err refusal.Usage) = ⊥
+MeetsPlan script inputs options (Err (refusal.NotLoaded name)) = ⊥
+MeetsPlan script inputs options (Err refusal.NoMemory) = ⊥
+MeetsPlan script inputs options (Err (refusal.BadRecord index)) = ⊥
+MeetsPlan script inputs options (Err (refusal.TooLong name)) = ⊥
 
 -- an answer meets a task
 abbrev pub Meets : Task → Answer → Type 0
 Meets NoCommand answer = answer ≡ Err refusal.Usage
 Meets (LongFile name) answer = answer ≡ Err (refusal.TooLong name)
 Meets (BadTable index) answer = answer ≡ Err (refusal.BadRecord index)
-Meets (PlanOf script inputs) answer = MeetsPlan script inputs answer
+Meets (PlanOf script inputs options) answer = MeetsPlan script inputs options answer
 
 -- two answers are one, or both are faults
 abbrev pub Agree : Answer → Answer → Type 0

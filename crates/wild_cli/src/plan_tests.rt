@@ -162,12 +162,18 @@ fn counters_without_value(rt: HostRuntime) -> Result<(), Fail> {
 
 #[test]
 fn counters_that_are_not_built(rt: HostRuntime) -> Result<(), Fail> {
-    let cases: [Case<'_>; 2] = [
+    let cases: [Case<'_>; 3] = [
         (
             "a symbol, before two sections of one name",
             b"SECTIONS { .a : { } . = x; .a : { } }",
             b"",
             b"fault 38 Unsupported index=2\n",
+        ),
+        (
+            "a symbol that asks for no address",
+            b"SECTIONS { . = base; .a : { *(.a) } } base = . + 0x4000;",
+            b"section,f.o,.a,1,1,A\n",
+            b"fault 38 Unsupported index=0\n",
         ),
         (
             "the size of a section",
@@ -250,6 +256,11 @@ const DOUBLING: &[u8] =
     b"s0 = 1; s1 = s0 + s0; s2 = s1 + s1; s3 = s2 + s2; s4 = s3 + s3; s5 = s4 + s4;
 s6 = s5 + s5; s7 = s6 + s6; s8 = s7 + s7; s9 = s8 + s8; s10 = s9 + s9;";
 
+const OUTERMOST: &[u8] = b"location 0 0x0000000000000010
+symbol x 0x0000000000004000 - default
+symbol base 0x0000000000004000 - default
+";
+
 const COUNTING: &[u8] = b"location 0 0x0000000000000010
 symbol x 0x0000000000000010 - default
 symbol y 0x0000000000000010 - default
@@ -257,8 +268,14 @@ symbol y 0x0000000000000010 - default
 
 #[test]
 fn symbols_of_symbols(rt: HostRuntime) -> Result<(), Fail> {
-    let cases: [Case<'_>; 4] = [
+    let cases: [Case<'_>; 5] = [
         ("each twice the last", DOUBLING, b"", DOUBLED),
+        (
+            "the counter outside of SECTIONS is 0, wherever it is read from",
+            b"SECTIONS { . = 16; x = base; } base = . + 0x4000;",
+            b"",
+            OUTERMOST,
+        ),
         (
             "names without bytes",
             b"\"\" = 5; PROVIDE(\"\" = 1 / 0); . = 4; ASSERT(1, m)",

@@ -2,7 +2,7 @@
 
 ghost use Rattle.std.specs.Prelude.{◌≡◌, Some};
 ghost use Rattle.wild_cli.specs.declared.words.Request.TheVariants.{Plan};
-ghost use Rattle.wild_cli.specs.Words.{command};
+ghost use Rattle.wild_cli.specs.Words.{command, plain_options};
 ghost use Rattle.wild_cli.specs.Answers.{LoadsFile, FileCounts, Plans};
 ghost use Rattle.wild_cli.specs.Run.{loading, putting, HasCause, Ends, Outcome, Told, WroteLine};
 
@@ -13,14 +13,18 @@ use wild_names::{Architecture, Fault, Name, RelocationModel};
 use wild_plan::{InputTable, PlanOptions, plan};
 use wild_sections::OutputKind;
 
-// What a plan is made for.
-const OPTIONS: PlanOptions = PlanOptions {
-    architecture: Architecture::X86_64,
-    endian: None,
-    kind: OutputKind::StaticExecutable(RelocationModel::Fixed),
-    header_size: 0,
-    segment_starts: [None, None, None],
-};
+// What a plan is made for, as long as no word asks for anything else.
+fn plain_options() -> PlanOptions
+    ensures { result ≡ plain_options }
+{
+    PlanOptions {
+        architecture: Architecture::X86_64,
+        endian: None,
+        kind: OutputKind::StaticExecutable(RelocationModel::Fixed),
+        header_size: 0,
+        segment_starts: [None, None, None],
+    }
+}
 
 /// Does what the words ask for, and answers the status. The text goes to `out`, and the line of a refusal to `err`.
 pub fn run<F: Files, O: Sink, E: Sink>(
@@ -77,7 +81,7 @@ fn plan_files<F: Files>(
     let script = load(alloc, files, script)?;
     let table = load(alloc, files, table)?;
     let inputs = read_table(alloc, &table)?;
-    text_of(alloc, &script, &inputs)
+    text_of(alloc, &script, &inputs, &plain_options())
 }
 
 fn load<F: Files>(alloc: Global, files: &mut F, name: Name) -> Result<Vec<u8>, Refusal>
@@ -93,11 +97,16 @@ fn load<F: Files>(alloc: Global, files: &mut F, name: Name) -> Result<Vec<u8>, R
     }
 }
 
-// The text of the plan of a script over a table.
-fn text_of(alloc: Global, script: &[u8], inputs: &InputTable) -> Result<Name, Refusal>
-    ensures { Plans script.now inputs.now result }
+// The text of the plan of a script over a table, made for these options.
+fn text_of(
+    alloc: Global,
+    script: &[u8],
+    inputs: &InputTable,
+    options: &PlanOptions,
+) -> Result<Name, Refusal>
+    ensures { Plans script.now inputs.now options.now result }
 {
-    match plan(alloc, script, inputs, &OPTIONS) {
+    match plan(alloc, script, inputs, options) {
         Ok(plan) => Ok(plan.plan_text(alloc)?),
         Err(Fault::NoMemory) => Err(Refusal::NoMemory),
         Err(fault) => Err(Refusal::Fault(fault)),

@@ -21,6 +21,7 @@ pub mod Symbols
 pub mod Conditions
 pub mod End
 pub mod Layout
+pub mod Settled
 pub mod Fit
 pub mod Text
 pub mod FaultText
