@@ -5,3 +5,5 @@ pub mod Sharing
 pub mod Laid
 pub mod Apart
 pub mod Listed
+pub mod Timely
+pub mod Ending

@@ -1,6 +1,7 @@
 //! Laws about layouts: what holds where all places are laid out.
 
 ghost use Rattle.std.specs.Prelude.{◌≡◌, ℕ, Some, slice_get};
+ghost use Rattle.wild_names.specs.declared.fault.Fault.TheVariants.{NotLaidOut};
 ghost use Rattle.wild_plan_laws.specs.Holding.{AllIsKnown, LaidSectionStands, LiesIn, RowHolds, SectionHolds};
 ghost use Rattle.wild_plan_laws.specs.Sharing.{SharingIsLowest};
 ghost use Rattle.wild_plan_spec.specs.declared.chunk.Kept.{Kept};
@@ -8,7 +9,7 @@ ghost use Rattle.wild_plan_spec.specs.declared.row.InputRow.{InputRow};
 ghost use Rattle.wild_plan_spec.specs.Case.{Case};
 ghost use Rattle.wild_plan_spec.specs.Chunks.{largest_alignment, section_rows};
 ghost use Rattle.wild_plan_spec.specs.Fates.{fates_of, section_names};
-ghost use Rattle.wild_plan_spec.specs.Fit.{IsLaid};
+ghost use Rattle.wild_plan_spec.specs.Fit.{EndFault, IsLaid};
 ghost use Rattle.wild_plan_spec.specs.Names.{Name};
 ghost use Rattle.wild_plan_spec.specs.Steps.{State};
 ghost use Rattle.wild_value_spec.specs.Known.{Known, Address};
@@ -57,4 +58,9 @@ pub fn rows_do_not_overlap()
 /// rows that are kept, and the location counters of places.
 pub fn all_is_known()
     ensures { (c : Case) (state : State) → IsLaid c state → AllIsKnown c state.known }
+{}
+
+/// What has no value in the end is not refused as not laid out: all that the symbols and conditions ask for is known then.
+pub fn end_is_late()
+    ensures { (c : Case) (n : ℕ) (x : Name) → EndFault c (NotLaidOut n x) → ⊥ }
 {}
