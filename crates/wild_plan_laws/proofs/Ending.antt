@@ -1,13 +1,10 @@
 -- Where all places are laid out, nothing is asked in the end that is not.
-use Rattle.std.proofs.Common.{◌≡◌, ◌∙◌, ℕ, zero, suc, ◌+◌, ◌<◌, Bool, true, false, cond, List, [], ◌∷◌, ◌++◌, length, Option, Some, None, Result, Ok, Err, refl, sym, ap, subst, inl, inr, ⊎_elim, arith}
+use Rattle.std.proofs.Common.{◌≡◌, ℕ, zero, suc, ◌+◌, ◌<◌, Bool, false, List, [], ◌∷◌, length, Option, Some, None, Result, Err, refl, subst, inl, inr, ⊎_elim, arith}
 use Rattle.std.specs.Prelude.{slice_get}
-use Rattle.std.specs.List.{position_from}
 use Rattle.wild_numbering.specs.Numbering.{is_named, number_of}
 use Rattle.wild_names.specs.declared.fault.Fault.{Fault}
 use Rattle.wild_names.specs.declared.fault.Fault.TheVariants.{NotLaidOut}
 use Rattle.wild_expression_tree.specs.declared.tree.Expression.{Expression}
-use Rattle.wild_script.specs.declared.tree.ProvideSymbolDefinition.{ProvideSymbolDefinition}
-use Rattle.wild_value_spec.specs.Answer.{◌>>=◌}
 use Rattle.wild_value_spec.specs.Known.{Known, Start, Address, Dot}
 use Rattle.wild_value_spec.specs.Marks.{max_height}
 use Rattle.wild_value_spec.specs.Scope.{Definition, OfRow, OfScript, Scope, definition_at, definition_of}
@@ -17,24 +14,23 @@ use Rattle.wild_plan_spec.specs.declared.place.Where.{Where}
 use Rattle.wild_plan_spec.specs.declared.place.Where.TheVariants.{Outermost, Between}
 use Rattle.wild_plan_spec.specs.declared.row.SymbolRow.{SymbolRow}
 use Rattle.wild_plan_spec.specs.Case.{Case}
-use Rattle.wild_plan_spec.specs.Conditions.{assert_holds, task_holds, place_holds, conditions}
+use Rattle.wild_plan_spec.specs.Conditions.{task_holds, place_holds, conditions}
 use Rattle.wild_plan_spec.specs.Definitions.{SymbolEntry, entry_of, row_chunk, table_entry, table_entries, assigned_entry, assigned_entries, provided_entry, provided_entries, firm_entries, all_entries, entry_names, definitions_in}
 use Rattle.wild_plan_spec.specs.Fates.{fates_of, section_names}
 use Rattle.wild_plan_spec.specs.Fit.{IsLaid, EndFault}
 use Rattle.wild_plan_spec.specs.Names.{Name}
 use Rattle.wild_plan_spec.specs.Orphans.{places_of}
-use Rattle.wild_plan_spec.specs.Places.{Place, Wait, Task, Assign, Provide, Locate, Check}
+use Rattle.wild_plan_spec.specs.Places.{Place, Wait, Assign, Provide, Locate, Check}
 use Rattle.wild_plan_spec.specs.Points.{task_point}
 use Rattle.wild_plan_spec.specs.Scopes.{entries_of, scope_of}
 use Rattle.wild_plan_spec.specs.Steps.{State}
-use Rattle.wild_plan_spec.specs.Symbols.{is_at, unlisted, listed_symbol, assignment_symbol, provide_symbol, task_symbol, place_symbol, symbols}
+use Rattle.wild_plan_spec.specs.Symbols.{is_at, unlisted, listed_symbol, assignment_symbol, task_symbol, place_symbol, symbols}
 use Rattle.wild_walk_laws.specs.Holding.{IsKnown}
-use Rattle.wild_walk_laws.proofs.Having.{Has, has_at, has_either}
-use Rattle.wild_plan_laws.specs.Holding.{AllIsKnown}
+use Rattle.wild_walk_laws.proofs.Having.{Has, has_either}
 use Rattle.wild_plan_laws.proofs.Apart.{all_is_known, rows_lie_in_sections}
 use Rattle.wild_plan_laws.proofs.Found.{kept_lays}
 use Rattle.wild_plan_laws.proofs.Numbered.{position_within}
-use Rattle.wild_plan_laws.proofs.Timely.{IsTimely, on, choose, IsSectionKnown, IsPointKnown, IsDefinitionKnown, IsScopeKnown, full_timely, assert_timely}
+use Rattle.wild_plan_laws.proofs.Timely.{IsTimely, on, choose, IsPointKnown, IsDefinitionKnown, IsScopeKnown, full_timely, assert_timely}
 
 module _ (known : Known) where
   -- the location counters of the places of a list are known, of which the first has the number i

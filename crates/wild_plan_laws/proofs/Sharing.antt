@@ -1,6 +1,6 @@
 -- Which section the lowest that shares an address is.
-use Rattle.std.proofs.Common.{◌≡◌, ℕ, zero, suc, ◌<◌, ◌≤◌, Bool, true, false, nat_lt, cond, Option, Some, None, refl, ap, subst, ⊎_elim, arith}
-use Rattle.std.proofs.lemmas.Bool.{cases_lt, cases_order, ltb-true, ltb-false, both_ways}
+use Rattle.std.proofs.Common.{◌≡◌, ℕ, zero, suc, ◌≤◌, Bool, true, false, nat_lt, cond, Option, Some, None, refl, ap, subst, ⊎_elim, arith}
+use Rattle.std.proofs.lemmas.Bool.{cases_order, ltb-true, ltb-false, both_ways}
 use Rattle.wild_value_spec.specs.Known.{Known, Start, number_at}
 use Rattle.wild_plan_spec.specs.Overlaps.{shares, lower_section, lowest_sharing}
 use Rattle.wild_plan_laws.proofs.Numbered.{up_to}

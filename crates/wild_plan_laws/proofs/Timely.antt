@@ -6,15 +6,11 @@ use Rattle.wild_names.specs.declared.fault.Fault.{Fault}
 use Rattle.wild_names.specs.declared.fault.Fault.TheVariants.{NotLaidOut}
 use Rattle.wild_expression_tree.specs.declared.tree.AssertCommand.{AssertCommand}
 use Rattle.wild_expression_tree.specs.declared.tree.Expression.{Expression}
-use Rattle.wild_expression_tree.specs.Shape.{Shape, Number, LocationCounter, Symbol, Named, Ternary, Align, Assert, shape}
-use Rattle.wild_expression_tree.specs.declared.operator.Arithmetic.{Arithmetic}
-use Rattle.wild_expression_tree.specs.declared.operator.Comparison.{Comparison}
-use Rattle.wild_expression_tree.specs.declared.operator.Connective.{Connective}
+use Rattle.wild_expression_tree.specs.Shape.{Shape, LocationCounter, Symbol, Named, Ternary, Align, Assert, shape}
 use Rattle.wild_expression_tree.specs.declared.operator.Division.{Division}
 use Rattle.wild_expression_tree.specs.declared.operator.Division.TheVariants as division
 use Rattle.wild_expression_tree.specs.declared.operator.Question.{Question}
 use Rattle.wild_expression_tree.specs.declared.operator.Question.TheVariants as question
-use Rattle.wild_expression_tree.specs.declared.operator.Unary.{Unary}
 use Rattle.wild_value_spec.specs.declared.value.DotSource.{DotSource}
 use Rattle.wild_value_spec.specs.declared.value.DotSource.TheVariants.{OfPlace, OfLoad, Zero, OfEnd}
 use Rattle.wild_value_spec.specs.declared.value.Point.{Point}
