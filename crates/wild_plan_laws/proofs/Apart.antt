@@ -56,15 +56,24 @@ module _ (c : Case) (state : State) (f : IsLaid c state) where
   pub sections_stand : (s : ℕ) (name : Name) → slice_get (names c) s ≡ Some name → LaidSectionStands state.known s (largest_alignment (section_rows s c.inputs.rows (fates c)))
   sections_stand s name there = subst (LaidSectionStands state.known s) (alignment_is c s name there) (all_after.sections.stand s (slice_get_within (names c) s name there))
 
+  -- the section that a row with an address lies in
+  record Within (r a : ℕ) (row : InputRow) : Type 0 where
+    number : ℕ
+    goes : GoesTo c.inputs.rows (fates c) r number
+    lies : LiesIn state.known number a row.size
+
+  within : (r a : ℕ) (row : InputRow) → slice_get c.inputs.rows r ≡ Some row → state.known (Address r) ≡ Some a → Within r a row
+  within r a row there known =
+      let found = ⊎_elim (λ l. l) (λ l. absurd l) (all_after.within.lie r a known) in
+      let rows : Some found.lies.row ≡ Some row = sym found.lies.there ∙ there in
+      let same : found.lies.row ≡ row = cc in
+      let size = ap (λ (row : InputRow). row.size) same in
+      record { number = found.number; goes = found.lies.goes; lies = record { start = found.start; end = found.end; spans = found.spans; from = found.lies.from; to = omega (arith, size) } }
+
   pub rows_lie_in_sections : (r : ℕ) (row : InputRow) (k : Kept) → slice_get c.inputs.rows r ≡ Some row → slice_get (fates c) r ≡ Some (Some k) → (a : ℕ) → state.known (Address r) ≡ Some a → LiesIn state.known k.chunk.«section» a row.size
   rows_lie_in_sections r row k there fate a known =
-      let found = ⊎_elim (λ l. l) (λ l. absurd l) (all_after.within.lie r a known) in
-      let lies = found.lies in
-      let rows : Some lies.row ≡ Some row = sym lies.there ∙ there in
-      let same : lies.row ≡ row = cc in
-      let own : found.number ≡ k.chunk.«section» = goes_to_one c.inputs.rows (fates c) r found.number k.chunk.«section» lies.goes (goes_to c.inputs.rows (fates c) r k fate) in
-      let size = ap (λ (row : InputRow). row.size) same in
-      subst (λ (s : ℕ). LiesIn state.known s a row.size) own (record { start = found.start; end = found.end; spans = found.spans; from = lies.from; to = omega (arith, size) })
+      let found = within r a row there known in
+      subst (λ (s : ℕ). LiesIn state.known s a row.size) (goes_to_one c.inputs.rows (fates c) r found.number k.chunk.«section» found.goes (goes_to c.inputs.rows (fates c) r k fate)) found.lies
 
   -- a section that starts is one of those that stand
   pub starts_below : (s n : ℕ) → state.known (Start s) ≡ Some n → s < length (names c)
@@ -74,25 +83,16 @@ module _ (c : Case) (state : State) (f : IsLaid c state) where
   sections_do_not_overlap s u x one other = all_after.sections.apart s u x (starts_below s one.start one.spans.starts) (starts_below u other.start other.spans.starts) one other
 
   -- the section of a row holds what the row holds
-  record Within (r x : ℕ) : Type 0 where
-    number : ℕ
-    goes : GoesTo c.inputs.rows (fates c) r number
-    holds : SectionHolds state.known number x
-
-  within : (r x : ℕ) → RowHolds c.inputs.rows state.known r x → Within r x
-  within r x h =
-      let found = ⊎_elim (λ l. l) (λ l. absurd l) (all_after.within.lie r h.address h.placed) in
-      let lies = found.lies in
-      let rows : Some lies.row ≡ Some h.row = sym lies.there ∙ h.there in
-      let same : lies.row ≡ h.row = cc in
-      let size = ap (λ (row : InputRow). row.size) same in
-      record { number = found.number; goes = lies.goes; holds = record { start = found.start; end = found.end; spans = found.spans; from = omega arith; to = omega (arith, size) } }
+  section_holds : (r x : ℕ) (h : RowHolds c.inputs.rows state.known r x) → SectionHolds state.known (within r h.address h.row h.there h.placed).number x
+  section_holds r x h =
+      let lies = (within r h.address h.row h.there h.placed).lies in
+      record { start = lies.start; end = lies.end; spans = lies.spans; from = omega arith; to = omega arith }
 
   pub rows_do_not_overlap : (p r x : ℕ) → RowHolds c.inputs.rows state.known p x → RowHolds c.inputs.rows state.known r x → p ≡ r
   rows_do_not_overlap p r x one other =
-      let first = within p x one in
-      let second = within r x other in
-      let same = sections_do_not_overlap first.number second.number x first.holds second.holds in
+      let first = within p one.address one.row one.there one.placed in
+      let second = within r other.address other.row other.there other.placed in
+      let same = sections_do_not_overlap first.number second.number x (section_holds p x one) (section_holds r x other) in
       all_after.within.apart second.number p r x (subst (GoesTo c.inputs.rows (fates c) p) same first.goes) second.goes one other
 
   -- ---- all is known

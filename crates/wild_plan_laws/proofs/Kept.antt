@@ -1,25 +1,184 @@
--- Each row that is kept has an address, wherever all places are laid out.
-use Rattle.std.proofs.Common.{◌≡◌, ℕ, ◌+◌, ◌<◌, List, [], ◌∷◌, length, Some, None, Ok, refl, sym, subst, inl, inr, arith}
+-- The chunk of each row that is kept has a place that lays out its rows, so that the row has an address wherever all places
+-- are laid out.
+use Rattle.std.proofs.Common.{◌≡◌, ℕ, ◌+◌, ◌<◌, ◌≤◌, Bool, true, false, cond, List, [], ◌∷◌, ◌++◌, length, Option, Some, None, Result, Ok, Err, refl, sym, ◌∙◌, ap, subst, inl, inr, ⊎_elim, arith}
 use Rattle.std.specs.Prelude.{slice_get}
+use Rattle.std.proofs.lemmas.Bool.{cases_lt}
+use Rattle.std.proofs.lemmas.List.{length-append}
 use Rattle.std.proofs.lemmas.Option.{slice_get_within}
+use Rattle.wild_numbering.specs.Numbering.{is_named, number_of}
+use Rattle.wild_glob.specs.declared.piece.Piece.{Piece}
+use Rattle.wild_rules.specs.declared.fault.RuleFault.{RuleFault}
+use Rattle.wild_rules.specs.declared.matcher.SectionNameMatcher.{SectionNameMatcher}
+use Rattle.wild_rules.specs.Making as making
+use Rattle.wild_script.specs.declared.tree.ContentsCommand.{ContentsCommand}
+use Rattle.wild_script.specs.declared.tree.ContentsCommand.TheVariants.{Matcher as OfMatcher}
+use Rattle.wild_script.specs.declared.tree.LinkerScript.{LinkerScript}
+use Rattle.wild_script.specs.declared.tree.Section.{Section}
+use Rattle.wild_script.specs.declared.tree.SectionCommand.TheVariants as inner
+use Rattle.wild_script.specs.declared.tree.SectionPattern.{SectionPattern}
 use Rattle.wild_value_spec.specs.Known.{Address}
 use Rattle.wild_plan_spec.specs.declared.chunk.Chunk.{Chunk}
-use Rattle.wild_plan_spec.specs.declared.chunk.ChunkRow.{ChunkRow}
+use Rattle.wild_plan_spec.specs.declared.chunk.Decision.{Decision}
+use Rattle.wild_plan_spec.specs.declared.chunk.Decision.TheVariants.{Discard, Keep, ByName}
 use Rattle.wild_plan_spec.specs.declared.chunk.Kept.{Kept}
+use Rattle.wild_plan_spec.specs.declared.row.InputRow.{InputRow}
+use Rattle.wild_plan_spec.specs.declared.row.InputTable.{InputTable}
+use Rattle.wild_plan_spec.specs.Fates.{rule_decision, name_decision, decision, names_of, orphans_of, section_names, first_chunk, fate_by, fate, all_fates, fates_of}
+use Rattle.wild_plan_spec.specs.Names.{Name}
+use Rattle.wild_plan_spec.specs.Orphans.{orphan_places, places_of}
+use Rattle.wild_plan_spec.specs.Places.{Place, Collect, Rows, Close, contents_places, rest_chunk, section_places, discard_places, all_places, script_places}
+use Rattle.wild_plan_spec.specs.Rules.{Rule, rule_of, pattern_decision, pattern_rules, place_rules, rules_in, rules_of, takes_row, first_rule}
+use Rattle.wild_plan_spec.specs.Statements.{Statement, Inner, Outer, is_discard, statement_sections, statements_of, sections_of}
+use Rattle.wild_plan_spec.specs.declared.chunk.ChunkRow.{ChunkRow}
 use Rattle.wild_plan_spec.specs.Case.{Case}
-use Rattle.wild_plan_spec.specs.Fates.{fates_of}
 use Rattle.wild_plan_spec.specs.Fit.{IsLaid}
 use Rattle.wild_plan_spec.specs.Ground.{Ground, ground_of}
-use Rattle.wild_plan_spec.specs.Orphans.{places_of}
-use Rattle.wild_plan_spec.specs.Places.{Place, Collect, Rows, Close}
 use Rattle.wild_plan_spec.specs.Steps.{State, row_placed, rows_placed, chunk_placed, chunk_collected, section_ended_alone, section_ended_after, section_closed, dot_noted, effect, step}
 use Rattle.wild_walk_laws.specs.Holding.{IsKnown}
+use Rattle.wild_walk_laws.proofs.Having.{Has, has_before, has_after, has_either, has_found, has_there}
+use Rattle.wild_walk_laws.proofs.Nesting.{names_length}
 use Rattle.wild_walk_laws.proofs.Chunked.{kept_among}
 use Rattle.wild_walk_laws.proofs.Entries.{known_entry}
 use Rattle.wild_walk_laws.proofs.Growing.{Grows, rows_grow, end_grows, to_end}
-use Rattle.wild_walk_laws.proofs.Having.{Has, has_there}
 use Rattle.wild_walk_laws.proofs.Steps.{row_at, bind_ok, by_row, by_chunk}
-use Rattle.wild_plan_laws.proofs.Found.{Lays, kept_lays}
+use Rattle.wild_plan_laws.proofs.Numbered.{each_at, made_of, position_within}
+
+-- the place lays out the rows of the chunk
+abbrev pub Lays : Chunk → Place → Type 0
+Lays q (Collect collects m) = collects ≡ Some q
+Lays q (Rows own) = own ≡ q
+Lays q (Close s rest) = rest ≡ Some q
+Lays q p = ⊥
+
+-- ---- rules
+
+abbrev Keeps : Kept → Rule → Type 0
+Keeps k rule = rule.decision ≡ Keep k
+
+module _ (k : Kept) where
+  one_keeps : (files : Result (Option (List Piece)) RuleFault) (names : Result SectionNameMatcher RuleFault) (d : Decision) → Has (Keeps k) (rule_of files names d) → d ≡ Keep k
+  one_keeps (Err f) names d h = absurd h
+  one_keeps (Ok files) (Err f) d h = absurd h
+  one_keeps (Ok files) (Ok names) d (inl h) = h
+  one_keeps (Ok files) (Ok names) d (inr h) = absurd h
+
+  decided_keeps : (q : Option Chunk) (p : SectionPattern) → pattern_decision q p ≡ Keep k → q ≡ Some k.chunk
+  decided_keeps None p e = absurd (cc)
+  decided_keeps (Some q) p e = let same : record { chunk = q; sorted = p.sorted } ≡ k = cc in ap (λ (kept : Kept). Some kept.chunk) same
+
+  patterns_keep : (q : Option Chunk) (file : Option Name) (ps : List SectionPattern) → Has (Keeps k) (pattern_rules q file ps) → q ≡ Some k.chunk
+  patterns_keep q file [] h = absurd h
+  patterns_keep q file (p ∷ ps) h = ⊎_elim
+      (λ first. decided_keeps q p (one_keeps (making.files_of file) (making.names_of p.name) (pattern_decision q p) first))
+      (λ rest. patterns_keep q file ps rest)
+      (has_either (Keeps k) (rule_of (making.files_of file) (making.names_of p.name) (pattern_decision q p)) (pattern_rules q file ps) h)
+
+  place_keeps : (p : Place) → Has (Keeps k) (place_rules p) → Lays k.chunk p
+  place_keeps (Collect q m) h = patterns_keep q m.input_file_pattern m.input_section_name_patterns h
+  place_keeps p h = absurd h
+
+  -- the chunk for which a rule keeps rows
+  rules_keep : (ps : List Place) → Has (Keeps k) (rules_in ps) → Has (Lays k.chunk) ps
+  rules_keep [] h = absurd h
+  rules_keep (p ∷ ps) h = ⊎_elim (λ first. inl (place_keeps p first)) (λ rest. inr (rules_keep ps rest)) (has_either (Keeps k) (place_rules p) (rules_in ps) h)
+
+  rule_keeps : (o : Option Rule) → rule_decision o ≡ Keep k → (rule : Rule) × (o ≡ Some rule) × Keeps k rule
+  rule_keeps None e = absurd (cc)
+  rule_keeps (Some rule) e = (rule, refl, e)
+
+  name_keeps : (name : Name) (rules : List Rule) (row : InputRow) → name_decision name rules row ≡ Keep k → Has (Keeps k) rules
+  name_keeps [] rules row e = absurd (cc)
+  name_keeps (b ∷ bs) rules row e = let found = rule_keeps (first_rule rules row) e in has_found (Keeps k) (takes_row row) rules found.0 found.1 found.2
+
+  chosen_keeps : (b : Bool) (d : Decision) → cond b Discard d ≡ Keep k → d ≡ Keep k
+  chosen_keeps true d e = absurd (cc)
+  chosen_keeps false d e = e
+
+  decision_keeps : (rules : List Rule) (row : InputRow) → decision rules row ≡ Keep k → Has (Keeps k) rules
+  unfolding decision
+  decision_keeps rules row e = name_keeps row.«section» rules row (chosen_keeps _ _ e)
+
+-- ---- sections
+
+-- the first chunk of a section
+abbrev first_of : ℕ → Chunk
+first_of s = record { «section» = s; number = 0 }
+
+contents_lay : (s : ℕ) (cs : List ContentsCommand) → Has (Lays (first_of s)) (contents_places s 0 cs ++ Close s (rest_chunk s cs) ∷ [])
+contents_lay s [] = inl refl
+contents_lay s (OfMatcher m ∷ cs) = inl refl
+
+section_lays : (s n : ℕ) (x : Section) → s ≡ n → Has (Lays (first_of n)) (section_places s x)
+section_lays s n x e = subst (λ (m : ℕ). Has (Lays (first_of m)) (section_places s x)) e (inr (contents_lay s x.commands))
+
+-- `/DISCARD/` has no number, any other section one
+inner_lays : (b : Bool) (x : Section) (s n : ℕ) (rest : List Section) (others : ℕ → List Place) → s ≤ n → n < s + length (cond b [] (x ∷ []) ++ rest)
+    → ((m : ℕ) → m ≤ n → n < m + length rest → Has (Lays (first_of n)) (others m))
+    → Has (Lays (first_of n)) (cond b (discard_places x) (section_places s x) ++ others (cond b s (s + 1)))
+inner_lays true x s n rest others low high later = has_after (Lays (first_of n)) (discard_places x) (others s) (later s low high)
+inner_lays false x s n rest others low high later = ⊎_elim
+    (λ lt. has_before (Lays (first_of n)) (section_places s x) (others (s + 1)) (section_lays s n x (omega (arith, low, lt))))
+    (λ le. has_after (Lays (first_of n)) (section_places s x) (others (s + 1)) (later (s + 1) le (omega (arith, high))))
+    (cases_lt n (s + 1))
+
+sections_lay : (sts : List Statement) (s n : ℕ) → s ≤ n → n < s + length (statement_sections sts) → Has (Lays (first_of n)) (all_places s sts)
+sections_lay [] s n low high = absurd (omega (arith, low, high))
+sections_lay (Inner (inner.Section x) ∷ sts) s n low high = inner_lays (is_discard x) x s n (statement_sections sts) (λ m. all_places m sts) low high (λ m l h. sections_lay sts m n l h)
+sections_lay (Inner c ∷ sts) s n low high = inr (sections_lay sts s n low high)
+sections_lay (Outer c ∷ sts) s n low high = has_after (Lays (first_of n)) _ (all_places s sts) (sections_lay sts s n low high)
+
+orphans_lay : (xs : List Name) (s n : ℕ) → s ≤ n → n < s + length xs → Has (Lays (first_of n)) (orphan_places s xs)
+orphans_lay [] s n low high = absurd (omega (arith, low, high))
+orphans_lay (x ∷ xs) s n low high = ⊎_elim
+    (λ lt. let same : s ≡ n = omega (arith, low, lt) in inr (inl (ap first_of same)))
+    (λ le. inr (inr (inr (orphans_lay xs (s + 1) n le (omega (arith, high))))))
+    (cases_lt n (s + 1))
+
+module _ (t : LinkerScript) (inputs : InputTable) where
+  abbrev HasPlace : Chunk → Type 0
+  HasPlace q = Has (Lays q) (places_of t inputs)
+
+  numbered_lays : (s : ℕ) → s < length (sections_of t) + length (orphans_of t inputs) → HasPlace (first_of s)
+  numbered_lays s high = ⊎_elim
+      (λ lt. has_before (Lays (first_of s)) (script_places t) (orphan_places (length (sections_of t)) (orphans_of t inputs)) (sections_lay (statements_of t) 0 s (omega arith) (omega (arith, lt))))
+      (λ le. has_after (Lays (first_of s)) (script_places t) (orphan_places (length (sections_of t)) (orphans_of t inputs)) (orphans_lay (orphans_of t inputs) (length (sections_of t)) s le high))
+      (cases_lt s (length (sections_of t)))
+
+  named_lays : (x : Name) (s : ℕ) → number_of x (section_names t inputs) ≡ Some s → HasPlace (first_of s)
+  named_lays x s e =
+      let within = position_within (is_named x) 0 (section_names t inputs) s e in
+      let both = length-append (names_of (sections_of t)) (orphans_of t inputs) in
+      let own = names_length (sections_of t) in
+      numbered_lays s (omega (arith, within, both, own))
+
+  first_lays : (x : Name) (o : Option ℕ) (k : Kept) → number_of x (section_names t inputs) ≡ o → first_chunk o ≡ Some k → HasPlace k.chunk
+  first_lays x None k e h = absurd (cc)
+  first_lays x (Some s) k e h =
+      let same : record { chunk = first_of s; sorted = false } ≡ k = cc in
+      subst (λ (kept : Kept). HasPlace kept.chunk) same (named_lays x s e)
+
+  fate_lays : (x : Name) (d : Decision) (k : Kept) → (d ≡ Keep k → Has (Keeps k) (rules_of t)) → fate_by (section_names t inputs) x d ≡ Some k → HasPlace k.chunk
+  fate_lays x Discard k keeps e = absurd (cc)
+  fate_lays x (Keep other) k keeps e = has_before (Lays k.chunk) (script_places t) (orphan_places (length (sections_of t)) (orphans_of t inputs)) (rules_keep k (script_places t) (keeps (cc)))
+  fate_lays x ByName k keeps e = first_lays x _ k refl e
+
+  row_lays : (row : InputRow) (k : Kept) → fate (rules_of t) (section_names t inputs) row ≡ Some k → HasPlace k.chunk
+  row_lays row k e = fate_lays row.«section» (decision (rules_of t) row) k (decision_keeps k (rules_of t) row) e
+
+  -- a row that is kept, and where its chunk is laid out
+  pub record IsLaidOut (r : ℕ) (k : Kept) : Type 0 where
+    pub row : InputRow
+    pub there : slice_get inputs.rows r ≡ Some row
+    pub place : HasPlace k.chunk
+
+  pub kept_lays : (r : ℕ) (k : Kept) → slice_get (fates_of t inputs) r ≡ Some (Some k) → IsLaidOut r k
+  kept_lays r k e =
+      let names = section_names t inputs in
+      let each = each_at (λ n row. fate (rules_of t) names row) (λ n rows. all_fates (rules_of t) names rows) (λ n. refl) (λ n row rows. refl) inputs.rows r in
+      let made = made_of (fate (rules_of t) names) (slice_get inputs.rows r) (Some k) (sym each ∙ e) in
+      record { row = made.0; there = made.1; place = row_lays made.0 k made.2 }
+
+-- ---- addresses
 
 module _ (r : ℕ) where
   abbrev HasAddress : State → Type 0

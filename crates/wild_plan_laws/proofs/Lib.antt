@@ -1,5 +1,4 @@
 pub mod Numbered
-pub mod Found
 pub mod Kept
 pub mod Sharing
 pub mod Laid

@@ -127,21 +127,15 @@ module _ (scope : Scope) (statement : ℕ) (known : Known) (all : IsScopeKnown k
   size_in None k = ok _
   size_in (Some s) k = on (asked (End s) _ (k s refl).2) (λ n. on (asked (Start s) _ (k s refl).0) (λ m. ok _))
 
-  start_in : (name : Name) (o : Option ℕ) → ((s : ℕ) → o ≡ Some s → IsSectionKnown known s) → IsTimely (v.address_in scope statement known (v.start_of scope statement known) name o)
-  unfolding v.start_of
-  start_in name None k = record { timely = λ e. e }
-  start_in name (Some s) k = on (asked (Start s) _ (k s refl).0) (λ n. ok _)
-
-  load_in : (name : Name) (o : Option ℕ) → ((s : ℕ) → o ≡ Some s → IsSectionKnown known s) → IsTimely (v.address_in scope statement known (v.load_of scope statement known) name o)
-  unfolding v.load_of
-  load_in name None k = record { timely = λ e. e }
-  load_in name (Some s) k = on (asked (Load s) _ (k s refl).1) (λ n. ok _)
+  address_in : (of : ℕ → Result ℕ Fault) (name : Name) (o : Option ℕ) → ((s : ℕ) → o ≡ Some s → IsTimely (of s)) → IsTimely (v.address_in scope statement known of name o)
+  address_in of name None k = record { timely = λ e. e }
+  address_in of name (Some s) k = on (k s refl) (λ n. ok _)
 
   named_value : (q : Question) (name : Name) → IsTimely (v.named_value scope statement known q name)
-  unfolding v.size v.start_named v.load_named
+  unfolding v.size v.start_named v.load_named v.start_of v.load_of
   named_value question.Sizeof name = size_in (scope.«section» name) (all.sections name)
-  named_value question.Addr name = start_in name (scope.«section» name) (all.sections name)
-  named_value question.Loadaddr name = load_in name (scope.«section» name) (all.sections name)
+  named_value question.Addr name = address_in _ name (scope.«section» name) (λ s e. asked (Start s) _ (all.sections name s e).0)
+  named_value question.Loadaddr name = address_in _ name (scope.«section» name) (λ s e. asked (Load s) _ (all.sections name s e).1)
   named_value q name = record { timely = λ e. e }
 
   symbol_value_in : (name : Name) (w : Whole) (o t : Option ℕ) → IsHomeKnown known o → IsTimely (v.symbol_value_in scope statement known name w o t)
