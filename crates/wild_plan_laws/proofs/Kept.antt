@@ -1,20 +1,14 @@
 -- The chunk of each row that is kept has a place that lays out its rows, so that the row has an address wherever all places
 -- are laid out.
-use Rattle.std.proofs.Common.{◌≡◌, ℕ, ◌+◌, ◌<◌, ◌≤◌, Bool, true, false, cond, List, [], ◌∷◌, ◌++◌, length, Option, Some, None, Result, Ok, Err, refl, sym, ◌∙◌, ap, subst, inl, inr, ⊎_elim, arith}
+use Rattle.std.proofs.Common.{◌≡◌, ℕ, ◌+◌, ◌<◌, Bool, true, false, cond, List, [], ◌∷◌, length, Option, Some, None, Result, Ok, Err, refl, sym, ◌∙◌, ap, subst, inl, inr, ⊎_elim, arith}
 use Rattle.std.specs.Prelude.{slice_get}
-use Rattle.std.proofs.lemmas.Bool.{cases_lt}
-use Rattle.std.proofs.lemmas.List.{length-append}
 use Rattle.std.proofs.lemmas.Option.{slice_get_within}
 use Rattle.wild_numbering.specs.Numbering.{is_named, number_of}
 use Rattle.wild_glob.specs.declared.piece.Piece.{Piece}
 use Rattle.wild_rules.specs.declared.fault.RuleFault.{RuleFault}
 use Rattle.wild_rules.specs.declared.matcher.SectionNameMatcher.{SectionNameMatcher}
 use Rattle.wild_rules.specs.Making as making
-use Rattle.wild_script.specs.declared.tree.ContentsCommand.{ContentsCommand}
-use Rattle.wild_script.specs.declared.tree.ContentsCommand.TheVariants.{Matcher as OfMatcher}
 use Rattle.wild_script.specs.declared.tree.LinkerScript.{LinkerScript}
-use Rattle.wild_script.specs.declared.tree.Section.{Section}
-use Rattle.wild_script.specs.declared.tree.SectionCommand.TheVariants as inner
 use Rattle.wild_script.specs.declared.tree.SectionPattern.{SectionPattern}
 use Rattle.wild_value_spec.specs.Known.{Address}
 use Rattle.wild_plan_spec.specs.declared.chunk.Chunk.{Chunk}
@@ -23,32 +17,25 @@ use Rattle.wild_plan_spec.specs.declared.chunk.Decision.TheVariants.{Discard, Ke
 use Rattle.wild_plan_spec.specs.declared.chunk.Kept.{Kept}
 use Rattle.wild_plan_spec.specs.declared.row.InputRow.{InputRow}
 use Rattle.wild_plan_spec.specs.declared.row.InputTable.{InputTable}
-use Rattle.wild_plan_spec.specs.Fates.{rule_decision, name_decision, decision, names_of, orphans_of, section_names, first_chunk, fate_by, fate, all_fates, fates_of}
+use Rattle.wild_plan_spec.specs.Fates.{rule_decision, name_decision, decision, orphans_of, section_names, first_chunk, fate_by, fate, all_fates, fates_of}
 use Rattle.wild_plan_spec.specs.Names.{Name}
 use Rattle.wild_plan_spec.specs.Orphans.{orphan_places, places_of}
-use Rattle.wild_plan_spec.specs.Places.{Place, Collect, Rows, Close, contents_places, rest_chunk, section_places, discard_places, all_places, script_places}
+use Rattle.wild_plan_spec.specs.Places.{Place, Collect, Rows, Close, script_places}
 use Rattle.wild_plan_spec.specs.Rules.{Rule, rule_of, pattern_decision, pattern_rules, place_rules, rules_in, rules_of, takes_row, first_rule}
-use Rattle.wild_plan_spec.specs.Statements.{Statement, Inner, Outer, is_discard, statement_sections, statements_of, sections_of}
+use Rattle.wild_plan_spec.specs.Statements.{sections_of}
 use Rattle.wild_plan_spec.specs.declared.chunk.ChunkRow.{ChunkRow}
 use Rattle.wild_plan_spec.specs.Case.{Case}
 use Rattle.wild_plan_spec.specs.Fit.{IsLaid}
 use Rattle.wild_plan_spec.specs.Ground.{Ground, ground_of}
 use Rattle.wild_plan_spec.specs.Steps.{State, row_placed, rows_placed, chunk_placed, chunk_collected, section_ended_alone, section_ended_after, section_closed, dot_noted, effect, step}
 use Rattle.wild_walk_laws.specs.Holding.{IsKnown}
-use Rattle.wild_walk_laws.proofs.Having.{Has, has_before, has_after, has_either, has_found, has_there}
-use Rattle.wild_walk_laws.proofs.Nesting.{names_length}
+use Rattle.wild_walk_laws.proofs.Having.{Has, has_before, has_either, has_found, has_there}
+use Rattle.wild_walk_laws.proofs.Nesting.{Lays, first_of, first_laid}
 use Rattle.wild_walk_laws.proofs.Chunked.{kept_among}
 use Rattle.wild_walk_laws.proofs.Entries.{known_entry}
 use Rattle.wild_walk_laws.proofs.Growing.{Grows, rows_grow, end_grows, to_end}
 use Rattle.wild_walk_laws.proofs.Steps.{row_at, bind_ok, by_row, by_chunk}
 use Rattle.wild_plan_laws.proofs.Numbered.{each_at, made_of, position_within}
-
--- the place lays out the rows of the chunk
-abbrev pub Lays : Chunk → Place → Type 0
-Lays q (Collect collects m) = collects ≡ Some q
-Lays q (Rows own) = own ≡ q
-Lays q (Close s rest) = rest ≡ Some q
-Lays q p = ⊥
 
 -- ---- rules
 
@@ -98,58 +85,14 @@ module _ (k : Kept) where
   unfolding decision
   decision_keeps rules row e = name_keeps row.«section» rules row (chosen_keeps _ _ e)
 
--- ---- sections
-
--- the first chunk of a section
-abbrev first_of : ℕ → Chunk
-first_of s = record { «section» = s; number = 0 }
-
-contents_lay : (s : ℕ) (cs : List ContentsCommand) → Has (Lays (first_of s)) (contents_places s 0 cs ++ Close s (rest_chunk s cs) ∷ [])
-contents_lay s [] = inl refl
-contents_lay s (OfMatcher m ∷ cs) = inl refl
-
-section_lays : (s n : ℕ) (x : Section) → s ≡ n → Has (Lays (first_of n)) (section_places s x)
-section_lays s n x e = subst (λ (m : ℕ). Has (Lays (first_of m)) (section_places s x)) e (inr (contents_lay s x.commands))
-
--- `/DISCARD/` has no number, any other section one
-inner_lays : (b : Bool) (x : Section) (s n : ℕ) (rest : List Section) (others : ℕ → List Place) → s ≤ n → n < s + length (cond b [] (x ∷ []) ++ rest)
-    → ((m : ℕ) → m ≤ n → n < m + length rest → Has (Lays (first_of n)) (others m))
-    → Has (Lays (first_of n)) (cond b (discard_places x) (section_places s x) ++ others (cond b s (s + 1)))
-inner_lays true x s n rest others low high later = has_after (Lays (first_of n)) (discard_places x) (others s) (later s low high)
-inner_lays false x s n rest others low high later = ⊎_elim
-    (λ lt. has_before (Lays (first_of n)) (section_places s x) (others (s + 1)) (section_lays s n x (omega (arith, low, lt))))
-    (λ le. has_after (Lays (first_of n)) (section_places s x) (others (s + 1)) (later (s + 1) le (omega (arith, high))))
-    (cases_lt n (s + 1))
-
-sections_lay : (sts : List Statement) (s n : ℕ) → s ≤ n → n < s + length (statement_sections sts) → Has (Lays (first_of n)) (all_places s sts)
-sections_lay [] s n low high = absurd (omega (arith, low, high))
-sections_lay (Inner (inner.Section x) ∷ sts) s n low high = inner_lays (is_discard x) x s n (statement_sections sts) (λ m. all_places m sts) low high (λ m l h. sections_lay sts m n l h)
-sections_lay (Inner c ∷ sts) s n low high = inr (sections_lay sts s n low high)
-sections_lay (Outer c ∷ sts) s n low high = has_after (Lays (first_of n)) _ (all_places s sts) (sections_lay sts s n low high)
-
-orphans_lay : (xs : List Name) (s n : ℕ) → s ≤ n → n < s + length xs → Has (Lays (first_of n)) (orphan_places s xs)
-orphans_lay [] s n low high = absurd (omega (arith, low, high))
-orphans_lay (x ∷ xs) s n low high = ⊎_elim
-    (λ lt. let same : s ≡ n = omega (arith, low, lt) in inr (inl (ap first_of same)))
-    (λ le. inr (inr (inr (orphans_lay xs (s + 1) n le (omega (arith, high))))))
-    (cases_lt n (s + 1))
+-- ---- rows that are kept
 
 module _ (t : LinkerScript) (inputs : InputTable) where
   abbrev HasPlace : Chunk → Type 0
   HasPlace q = Has (Lays q) (places_of t inputs)
 
-  numbered_lays : (s : ℕ) → s < length (sections_of t) + length (orphans_of t inputs) → HasPlace (first_of s)
-  numbered_lays s high = ⊎_elim
-      (λ lt. has_before (Lays (first_of s)) (script_places t) (orphan_places (length (sections_of t)) (orphans_of t inputs)) (sections_lay (statements_of t) 0 s (omega arith) (omega (arith, lt))))
-      (λ le. has_after (Lays (first_of s)) (script_places t) (orphan_places (length (sections_of t)) (orphans_of t inputs)) (orphans_lay (orphans_of t inputs) (length (sections_of t)) s le high))
-      (cases_lt s (length (sections_of t)))
-
   named_lays : (x : Name) (s : ℕ) → number_of x (section_names t inputs) ≡ Some s → HasPlace (first_of s)
-  named_lays x s e =
-      let within = position_within (is_named x) 0 (section_names t inputs) s e in
-      let both = length-append (names_of (sections_of t)) (orphans_of t inputs) in
-      let own = names_length (sections_of t) in
-      numbered_lays s (omega (arith, within, both, own))
+  named_lays x s e = let within = position_within (is_named x) 0 (section_names t inputs) s e in first_laid t inputs s (omega (arith, within))
 
   first_lays : (x : Name) (o : Option ℕ) (k : Kept) → number_of x (section_names t inputs) ≡ o → first_chunk o ≡ Some k → HasPlace k.chunk
   first_lays x None k e h = absurd (cc)

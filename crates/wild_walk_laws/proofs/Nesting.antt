@@ -1,6 +1,7 @@
--- The places of a script and its orphans nest: by recursion over the tree, once.
-use Rattle.std.proofs.Common.{◌≡◌, ◌∙◌, ℕ, suc, ◌+◌, Bool, true, false, cond, List, [], ◌∷◌, ◌++◌, length, refl, sym, ap, subst, arith}
+-- The places of a script and its orphans nest, and each section has its first chunk: by recursion over the tree, once.
+use Rattle.std.proofs.Common.{◌≡◌, ◌∙◌, ℕ, suc, ◌+◌, ◌<◌, ◌≤◌, Bool, true, false, cond, List, [], ◌∷◌, ◌++◌, length, Some, None, refl, sym, ap, subst, inl, inr, ⊎_elim, arith}
 use Rattle.std.specs.Prelude.{IfSome}
+use Rattle.std.proofs.lemmas.Bool.{cases_lt}
 use Rattle.std.proofs.lemmas.List.{length-append}
 use Rattle.wild_script.specs.declared.tree.Command.TheVariants as command
 use Rattle.wild_script.specs.declared.tree.ContentsCommand.{ContentsCommand}
@@ -8,18 +9,49 @@ use Rattle.wild_script.specs.declared.tree.ContentsCommand.TheVariants.{Matcher 
 use Rattle.wild_script.specs.declared.tree.LinkerScript.{LinkerScript}
 use Rattle.wild_script.specs.declared.tree.Section.{Section}
 use Rattle.wild_script.specs.declared.tree.SectionCommand.TheVariants as inner
+use Rattle.wild_plan_spec.specs.declared.chunk.Chunk.{Chunk}
 use Rattle.wild_plan_spec.specs.declared.row.InputTable.{InputTable}
 use Rattle.wild_plan_spec.specs.Fates.{names_of, orphans_of, section_names}
 use Rattle.wild_plan_spec.specs.Names.{Name}
 use Rattle.wild_plan_spec.specs.Orphans.{orphan_places, places_of}
-use Rattle.wild_plan_spec.specs.Places.{Place, Close, Idle, contents_places, rest_chunk, section_places, discarding_places, discard_places, statement_places, next_section, all_places, script_places}
+use Rattle.wild_plan_spec.specs.Places.{Place, Open, Collect, Rows, Close, Idle, contents_places, rest_chunk, section_places, discarding_places, discard_places, statement_places, next_section, all_places, script_places}
 use Rattle.wild_plan_spec.specs.Statements.{Statement, Inner, Outer, is_discard, sections_in, statement_sections, statements_of, sections_of}
 use Rattle.wild_walk_laws.specs.Nesting.{Zone, Free, Inside, Nests}
+use Rattle.wild_walk_laws.proofs.Having.{Has, has_before, has_after}
 
--- one list after the other
+-- the place lays out the rows of the chunk
+abbrev pub Lays : Chunk → Place → Type 0
+Lays q (Collect collects m) = collects ≡ Some q
+Lays q (Rows own) = own ≡ q
+Lays q (Close s rest) = rest ≡ Some q
+Lays q p = ⊥
+
+-- the first chunk of a section
+abbrev pub first_of : ℕ → Chunk
+first_of s = record { «section» = s; number = 0 }
+
+-- places hold the sections from n up to m, each with its first chunk
+record Hold (n : ℕ) (ps : List Place) (m : ℕ) : Type 0 where
+  nest : Nests (Free n) ps (Free m)
+  lay : (s : ℕ) → n ≤ s → s < m → Has (Lays (first_of s)) ps
+
+-- ---- one list after the other
+
 nests_both : (xs ys : List Place) (x y z : Zone) → Nests x xs y → Nests y ys z → Nests x (xs ++ ys) z
 nests_both [] ys x y z f g = subst (λ w. Nests w ys z) f g
 nests_both (p ∷ ps) ys x y z f g = (f.0, f.1, nests_both ps ys f.0 y z f.2 g)
+
+both_hold : (xs ys : List Place) (n m k : ℕ) → Hold n xs m → Hold m ys k → Hold n (xs ++ ys) k
+both_hold xs ys n m k f g = record {
+  nest = nests_both xs ys (Free n) (Free m) (Free k) f.nest g.nest;
+  lay = λ s low high. ⊎_elim (λ lt. has_before (Lays (first_of s)) xs ys (f.lay s low lt)) (λ le. has_after (Lays (first_of s)) xs ys (g.lay s le high)) (cases_lt s m);
+}
+
+none_hold : (n : ℕ) (ps : List Place) → Nests (Free n) ps (Free n) → Hold n ps n
+none_hold n ps nest = record { nest = nest; lay = λ s low high. absurd (omega (arith, low, high)) }
+
+one_holds : (n : ℕ) (ps : List Place) → Nests (Free n) ps (Free (n + 1)) → Has (Lays (first_of n)) ps → Hold n ps (n + 1)
+one_holds n ps nest lay = record { nest = nest; lay = λ s low high. let same : n ≡ s = omega (arith, low, high) in subst (λ m. Has (Lays (first_of m)) ps) same lay }
 
 -- ---- one section
 
@@ -31,13 +63,18 @@ rest_own : (s : ℕ) (cs : List ContentsCommand) → IfSome (rest_chunk s cs) (�
 rest_own s [] = refl
 rest_own s (OfMatcher m ∷ cs) = tt
 
-section_nests : (s : ℕ) (x : Section) → Nests (Free s) (section_places s x) (Free (s + 1))
-section_nests s x = (
+contents_lay : (s : ℕ) (cs : List ContentsCommand) → Has (Lays (first_of s)) (contents_places s 0 cs ++ Close s (rest_chunk s cs) ∷ [])
+contents_lay s [] = inl refl
+contents_lay s (OfMatcher m ∷ cs) = inl refl
+
+section_holds : (s : ℕ) (x : Section) → Hold s (section_places s x) (s + 1)
+section_holds s x = one_holds s (section_places s x) (
   Inside s,
   (refl, refl),
   nests_both (contents_places s 0 x.commands) (Close s (rest_chunk s x.commands) ∷ []) (Inside s) (Inside s) (Free (s + 1))
       (contents_nest s 0 x.commands) (Free (s + 1), (refl, rest_own s x.commands, refl), refl),
 )
+    (inr (contents_lay s x.commands))
 
 -- ---- statements
 
@@ -48,15 +85,15 @@ discarding_nest n (OfMatcher m ∷ cs) = (Free n, refl, discarding_nest n cs)
 discard_nests : (n : ℕ) (x : Section) → Nests (Free n) (discard_places x) (Free n)
 discard_nests n x = (Free n, refl, nests_both (discarding_places x.commands) (Idle ∷ []) (Free n) (Free n) (Free n) (discarding_nest n x.commands) (Free n, refl, refl))
 
-section_or_discard : (b : Bool) (n : ℕ) (x : Section) → Nests (Free n) (cond b (discard_places x) (section_places n x)) (Free (cond b n (n + 1)))
-section_or_discard true n x = discard_nests n x
-section_or_discard false n x = section_nests n x
+section_or_discard : (b : Bool) (n : ℕ) (x : Section) → Hold n (cond b (discard_places x) (section_places n x)) (cond b n (n + 1))
+section_or_discard true n x = none_hold n (discard_places x) (discard_nests n x)
+section_or_discard false n x = section_holds n x
 
-statement_nests : (n : ℕ) (x : Statement) → Nests (Free n) (statement_places n x) (Free (next_section n x))
-statement_nests n (Inner (inner.Section x)) = section_or_discard (is_discard x) n x
-statement_nests n (Inner c) = (Free n, refl, refl)
-statement_nests n (Outer (command.Sections c)) = refl
-statement_nests n (Outer c) = (Free n, refl, refl)
+statement_holds : (n : ℕ) (x : Statement) → Hold n (statement_places n x) (next_section n x)
+statement_holds n (Inner (inner.Section x)) = section_or_discard (is_discard x) n x
+statement_holds n (Inner c) = none_hold n _ (Free n, refl, refl)
+statement_holds n (Outer (command.Sections c)) = none_hold n [] refl
+statement_holds n (Outer c) = none_hold n _ (Free n, refl, refl)
 
 numbered_by : (b : Bool) (n : ℕ) (x : Section) (m : ℕ) → cond b n (n + 1) + m ≡ n + (length (cond b [] (x ∷ [])) + m)
 numbered_by true n x m = omega arith
@@ -68,33 +105,44 @@ numbered n (Inner (inner.Section x)) m = numbered_by (is_discard x) n x m
 numbered n (Inner c) m = omega arith
 numbered n (Outer c) m = omega arith
 
-statements_nest : (n : ℕ) (xs : List Statement) → Nests (Free n) (all_places n xs) (Free (n + length (statement_sections xs)))
-statements_nest n [] = ap Free (omega arith)
-statements_nest n (x ∷ xs) =
+statements_hold : (n : ℕ) (xs : List Statement) → Hold n (all_places n xs) (n + length (statement_sections xs))
+statements_hold n [] = let z : n ≡ n + 0 = omega arith in subst (Hold n []) z (none_hold n [] refl)
+statements_hold n (x ∷ xs) =
     let both = length-append (sections_in x) (statement_sections xs) in
     let z = numbered n x (length (statement_sections xs)) ∙ ap (λ m. n + m) (sym both) in
-    nests_both (statement_places n x) (all_places (next_section n x) xs) (Free n) (Free (next_section n x)) _
-    (statement_nests n x) (subst (λ m. Nests (Free (next_section n x)) (all_places (next_section n x) xs) (Free m)) z (statements_nest (next_section n x) xs))
+    subst (Hold n (all_places n (x ∷ xs))) z (both_hold (statement_places n x) (all_places (next_section n x) xs) n (next_section n x) _ (statement_holds n x) (statements_hold (next_section n x) xs))
 
 -- ---- orphans
 
-orphans_nest : (n : ℕ) (xs : List Name) → Nests (Free n) (orphan_places n xs) (Free (n + length xs))
-orphans_nest n [] = ap Free (omega arith)
-orphans_nest n (x ∷ xs) =
-    let z : n + 1 + length xs ≡ n + suc (length xs) = omega arith in
-    (Inside n, (refl, refl), (Inside n, (refl, refl), (Free (n + 1), (refl, tt, refl), subst (λ m. Nests (Free (n + 1)) (orphan_places (n + 1) xs) (Free m)) z (orphans_nest (n + 1) xs))))
+orphan_holds : (n : ℕ) → Hold n (Open n ∷ Rows (first_of n) ∷ Close n None ∷ []) (n + 1)
+orphan_holds n = one_holds n _ (Inside n, (refl, refl), (Inside n, (refl, refl), (Free (n + 1), (refl, tt, refl), refl))) (inr (inl refl))
 
-pub names_length : (xs : List Section) → length (names_of xs) ≡ length xs
+orphans_hold : (n : ℕ) (xs : List Name) → Hold n (orphan_places n xs) (n + length xs)
+orphans_hold n [] = let z : n ≡ n + 0 = omega arith in subst (Hold n []) z (none_hold n [] refl)
+orphans_hold n (x ∷ xs) =
+    let z : n + 1 + length xs ≡ n + suc (length xs) = omega arith in
+    subst (Hold n (orphan_places n (x ∷ xs))) z (both_hold (Open n ∷ Rows (first_of n) ∷ Close n None ∷ []) (orphan_places (n + 1) xs) n (n + 1) _ (orphan_holds n) (orphans_hold (n + 1) xs))
+
+-- ---- all places
+
+names_length : (xs : List Section) → length (names_of xs) ≡ length xs
 names_length [] = refl
 names_length (x ∷ xs) = ap suc (names_length xs)
 
-pub places_nest : (t : LinkerScript) (inputs : InputTable) → Nests (Free 0) (places_of t inputs) (Free (length (section_names t inputs)))
-places_nest t inputs =
-    let own = length (sections_of t) in
-    let both = length-append (names_of (sections_of t)) (orphans_of t inputs) in
-    let named = names_length (sections_of t) in
-    let z : own + length (orphans_of t inputs) ≡ length (section_names t inputs) = omega (arith, both, named) in
-    let first : 0 + own ≡ own = omega arith in
-    nests_both (script_places t) (orphan_places own (orphans_of t inputs)) (Free 0) (Free own) _
-    (subst (λ m. Nests (Free 0) (script_places t) (Free m)) first (statements_nest 0 (statements_of t)))
-    (subst (λ m. Nests (Free own) (orphan_places own (orphans_of t inputs)) (Free m)) z (orphans_nest own (orphans_of t inputs)))
+module _ (t : LinkerScript) (inputs : InputTable) where
+  all_hold : Hold 0 (places_of t inputs) (length (section_names t inputs))
+  all_hold =
+      let own = length (sections_of t) in
+      let both = length-append (names_of (sections_of t)) (orphans_of t inputs) in
+      let named = names_length (sections_of t) in
+      let z : 0 + own + length (orphans_of t inputs) ≡ length (section_names t inputs) = omega (arith, both, named) in
+      let first : 0 + own ≡ own = omega arith in
+      subst (Hold 0 (places_of t inputs)) z (both_hold (script_places t) (orphan_places own (orphans_of t inputs)) 0 (0 + own) _
+      (statements_hold 0 (statements_of t)) (subst (λ m. Hold m (orphan_places own (orphans_of t inputs)) (m + length (orphans_of t inputs))) (sym first) (orphans_hold own (orphans_of t inputs))))
+
+  pub places_nest : Nests (Free 0) (places_of t inputs) (Free (length (section_names t inputs)))
+  places_nest = all_hold.nest
+
+  -- a place lays out the first chunk of each section
+  pub first_laid : (s : ℕ) → s < length (section_names t inputs) → Has (Lays (first_of s)) (places_of t inputs)
+  first_laid s low = all_hold.lay s (omega arith) low
