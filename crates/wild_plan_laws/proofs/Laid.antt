@@ -355,7 +355,7 @@ stands_passes ground rows fates all =
     let alignment = λ (s : ℕ). (ground.facts s).alignment in
     record {
       noted = noted alignment rows fates;
-      set = λ n counter locations st h. h;
+      located = λ n counter locations st h. h;
       opened = opened alignment rows fates;
       placed = λ s q st next own goes h. chunk_amid alignment rows fates s q (ground.rows q) st next own (all q) goes h;
       ended = ends alignment rows fates;

@@ -30,8 +30,8 @@ Lays q p = ⊥
 abbrev pub first_of : ℕ → Chunk
 first_of s = record { «section» = s; number = 0 }
 
--- places hold the sections from n up to m, each with its first chunk
-record Hold (n : ℕ) (ps : List Place) (m : ℕ) : Type 0 where
+-- places bring the sections from n up to m, one after the other, each with its first chunk
+record Brings (n : ℕ) (ps : List Place) (m : ℕ) : Type 0 where
   nest : Nests (Free n) ps (Free m)
   lay : (s : ℕ) → n ≤ s → s < m → Has (Lays (first_of s)) ps
 
@@ -41,17 +41,17 @@ nests_both : (xs ys : List Place) (x y z : Zone) → Nests x xs y → Nests y ys
 nests_both [] ys x y z f g = subst (λ w. Nests w ys z) f g
 nests_both (p ∷ ps) ys x y z f g = (f.0, f.1, nests_both ps ys f.0 y z f.2 g)
 
-both_hold : (xs ys : List Place) (n m k : ℕ) → Hold n xs m → Hold m ys k → Hold n (xs ++ ys) k
-both_hold xs ys n m k f g = record {
+both_bring : (xs ys : List Place) (n m k : ℕ) → Brings n xs m → Brings m ys k → Brings n (xs ++ ys) k
+both_bring xs ys n m k f g = record {
   nest = nests_both xs ys (Free n) (Free m) (Free k) f.nest g.nest;
   lay = λ s low high. ⊎_elim (λ lt. has_before (Lays (first_of s)) xs ys (f.lay s low lt)) (λ le. has_after (Lays (first_of s)) xs ys (g.lay s le high)) (cases_lt s m);
 }
 
-none_hold : (n : ℕ) (ps : List Place) → Nests (Free n) ps (Free n) → Hold n ps n
-none_hold n ps nest = record { nest = nest; lay = λ s low high. absurd (omega (arith, low, high)) }
+none_bring : (n : ℕ) (ps : List Place) → Nests (Free n) ps (Free n) → Brings n ps n
+none_bring n ps nest = record { nest = nest; lay = λ s low high. absurd (omega (arith, low, high)) }
 
-one_holds : (n : ℕ) (ps : List Place) → Nests (Free n) ps (Free (n + 1)) → Has (Lays (first_of n)) ps → Hold n ps (n + 1)
-one_holds n ps nest lay = record { nest = nest; lay = λ s low high. let same : n ≡ s = omega (arith, low, high) in subst (λ m. Has (Lays (first_of m)) ps) same lay }
+one_brings : (n : ℕ) (ps : List Place) → Nests (Free n) ps (Free (n + 1)) → Has (Lays (first_of n)) ps → Brings n ps (n + 1)
+one_brings n ps nest lay = record { nest = nest; lay = λ s low high. let same : n ≡ s = omega (arith, low, high) in subst (λ m. Has (Lays (first_of m)) ps) same lay }
 
 -- ---- one section
 
@@ -67,8 +67,8 @@ contents_lay : (s : ℕ) (cs : List ContentsCommand) → Has (Lays (first_of s))
 contents_lay s [] = inl refl
 contents_lay s (OfMatcher m ∷ cs) = inl refl
 
-section_holds : (s : ℕ) (x : Section) → Hold s (section_places s x) (s + 1)
-section_holds s x = one_holds s (section_places s x) (
+section_brings : (s : ℕ) (x : Section) → Brings s (section_places s x) (s + 1)
+section_brings s x = one_brings s (section_places s x) (
   Inside s,
   (refl, refl),
   nests_both (contents_places s 0 x.commands) (Close s (rest_chunk s x.commands) ∷ []) (Inside s) (Inside s) (Free (s + 1))
@@ -85,15 +85,15 @@ discarding_nest n (OfMatcher m ∷ cs) = (Free n, refl, discarding_nest n cs)
 discard_nests : (n : ℕ) (x : Section) → Nests (Free n) (discard_places x) (Free n)
 discard_nests n x = (Free n, refl, nests_both (discarding_places x.commands) (Idle ∷ []) (Free n) (Free n) (Free n) (discarding_nest n x.commands) (Free n, refl, refl))
 
-section_or_discard : (b : Bool) (n : ℕ) (x : Section) → Hold n (cond b (discard_places x) (section_places n x)) (cond b n (n + 1))
-section_or_discard true n x = none_hold n (discard_places x) (discard_nests n x)
-section_or_discard false n x = section_holds n x
+section_or_discard : (b : Bool) (n : ℕ) (x : Section) → Brings n (cond b (discard_places x) (section_places n x)) (cond b n (n + 1))
+section_or_discard true n x = none_bring n (discard_places x) (discard_nests n x)
+section_or_discard false n x = section_brings n x
 
-statement_holds : (n : ℕ) (x : Statement) → Hold n (statement_places n x) (next_section n x)
-statement_holds n (Inner (inner.Section x)) = section_or_discard (is_discard x) n x
-statement_holds n (Inner c) = none_hold n _ (Free n, refl, refl)
-statement_holds n (Outer (command.Sections c)) = none_hold n [] refl
-statement_holds n (Outer c) = none_hold n _ (Free n, refl, refl)
+statement_brings : (n : ℕ) (x : Statement) → Brings n (statement_places n x) (next_section n x)
+statement_brings n (Inner (inner.Section x)) = section_or_discard (is_discard x) n x
+statement_brings n (Inner c) = none_bring n _ (Free n, refl, refl)
+statement_brings n (Outer (command.Sections c)) = none_bring n [] refl
+statement_brings n (Outer c) = none_bring n _ (Free n, refl, refl)
 
 numbered_by : (b : Bool) (n : ℕ) (x : Section) (m : ℕ) → cond b n (n + 1) + m ≡ n + (length (cond b [] (x ∷ [])) + m)
 numbered_by true n x m = omega arith
@@ -105,23 +105,23 @@ numbered n (Inner (inner.Section x)) m = numbered_by (is_discard x) n x m
 numbered n (Inner c) m = omega arith
 numbered n (Outer c) m = omega arith
 
-statements_hold : (n : ℕ) (xs : List Statement) → Hold n (all_places n xs) (n + length (statement_sections xs))
-statements_hold n [] = let z : n ≡ n + 0 = omega arith in subst (Hold n []) z (none_hold n [] refl)
-statements_hold n (x ∷ xs) =
+statements_bring : (n : ℕ) (xs : List Statement) → Brings n (all_places n xs) (n + length (statement_sections xs))
+statements_bring n [] = let z : n ≡ n + 0 = omega arith in subst (Brings n []) z (none_bring n [] refl)
+statements_bring n (x ∷ xs) =
     let both = length-append (sections_in x) (statement_sections xs) in
     let z = numbered n x (length (statement_sections xs)) ∙ ap (λ m. n + m) (sym both) in
-    subst (Hold n (all_places n (x ∷ xs))) z (both_hold (statement_places n x) (all_places (next_section n x) xs) n (next_section n x) _ (statement_holds n x) (statements_hold (next_section n x) xs))
+    subst (Brings n (all_places n (x ∷ xs))) z (both_bring (statement_places n x) (all_places (next_section n x) xs) n (next_section n x) _ (statement_brings n x) (statements_bring (next_section n x) xs))
 
 -- ---- orphans
 
-orphan_holds : (n : ℕ) → Hold n (Open n ∷ Rows (first_of n) ∷ Close n None ∷ []) (n + 1)
-orphan_holds n = one_holds n _ (Inside n, (refl, refl), (Inside n, (refl, refl), (Free (n + 1), (refl, tt, refl), refl))) (inr (inl refl))
+orphan_brings : (n : ℕ) → Brings n (Open n ∷ Rows (first_of n) ∷ Close n None ∷ []) (n + 1)
+orphan_brings n = one_brings n _ (Inside n, (refl, refl), (Inside n, (refl, refl), (Free (n + 1), (refl, tt, refl), refl))) (inr (inl refl))
 
-orphans_hold : (n : ℕ) (xs : List Name) → Hold n (orphan_places n xs) (n + length xs)
-orphans_hold n [] = let z : n ≡ n + 0 = omega arith in subst (Hold n []) z (none_hold n [] refl)
-orphans_hold n (x ∷ xs) =
+orphans_bring : (n : ℕ) (xs : List Name) → Brings n (orphan_places n xs) (n + length xs)
+orphans_bring n [] = let z : n ≡ n + 0 = omega arith in subst (Brings n []) z (none_bring n [] refl)
+orphans_bring n (x ∷ xs) =
     let z : n + 1 + length xs ≡ n + suc (length xs) = omega arith in
-    subst (Hold n (orphan_places n (x ∷ xs))) z (both_hold (Open n ∷ Rows (first_of n) ∷ Close n None ∷ []) (orphan_places (n + 1) xs) n (n + 1) _ (orphan_holds n) (orphans_hold (n + 1) xs))
+    subst (Brings n (orphan_places n (x ∷ xs))) z (both_bring (Open n ∷ Rows (first_of n) ∷ Close n None ∷ []) (orphan_places (n + 1) xs) n (n + 1) _ (orphan_brings n) (orphans_bring (n + 1) xs))
 
 -- ---- all places
 
@@ -130,19 +130,19 @@ names_length [] = refl
 names_length (x ∷ xs) = ap suc (names_length xs)
 
 module _ (t : LinkerScript) (inputs : InputTable) where
-  all_hold : Hold 0 (places_of t inputs) (length (section_names t inputs))
-  all_hold =
+  all_bring : Brings 0 (places_of t inputs) (length (section_names t inputs))
+  all_bring =
       let own = length (sections_of t) in
       let both = length-append (names_of (sections_of t)) (orphans_of t inputs) in
       let named = names_length (sections_of t) in
       let z : 0 + own + length (orphans_of t inputs) ≡ length (section_names t inputs) = omega (arith, both, named) in
       let first : 0 + own ≡ own = omega arith in
-      subst (Hold 0 (places_of t inputs)) z (both_hold (script_places t) (orphan_places own (orphans_of t inputs)) 0 (0 + own) _
-      (statements_hold 0 (statements_of t)) (subst (λ m. Hold m (orphan_places own (orphans_of t inputs)) (m + length (orphans_of t inputs))) (sym first) (orphans_hold own (orphans_of t inputs))))
+      subst (Brings 0 (places_of t inputs)) z (both_bring (script_places t) (orphan_places own (orphans_of t inputs)) 0 (0 + own) _
+      (statements_bring 0 (statements_of t)) (subst (λ m. Brings m (orphan_places own (orphans_of t inputs)) (m + length (orphans_of t inputs))) (sym first) (orphans_bring own (orphans_of t inputs))))
 
   pub places_nest : Nests (Free 0) (places_of t inputs) (Free (length (section_names t inputs)))
-  places_nest = all_hold.nest
+  places_nest = all_bring.nest
 
   -- a place lays out the first chunk of each section
   pub first_laid : (s : ℕ) → s < length (section_names t inputs) → Has (Lays (first_of s)) (places_of t inputs)
-  first_laid s low = all_hold.lay s (omega arith) low
+  first_laid s low = all_bring.lay s (omega arith) low

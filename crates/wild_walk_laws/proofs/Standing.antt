@@ -101,7 +101,7 @@ rows_stand_in_place c state f =
     laid_walked c state f (λ z st. StandInPlace rows st.known)
     (record {
       noted = λ z i n st h. stays rows fates st.known (noted_at i n st).known (λ r. other_entry (Dot i) n st.known (Address r) refl) h;
-      set = λ n counter locations st h. h;
+      located = λ n counter locations st h. h;
       opened = λ s n st up h. stays rows fates st.known (opened_at s n st).known (λ r. other_entry (Load s) n (with_number (Start s) n st.known) (Address r) refl ∙ other_entry (Start s) n st.known (Address r) refl) h;
       placed = λ s q st next own goes h. chunk_stands rows fates (f.order q) st next (λ i d low. (chunk_rows rows fates q (f.order q) (f.ordered q) i d low).0) (f.ordered q).sorted goes h;
       ended = λ s st alone h. stays rows fates st.known (ended_at s st).known (λ r. other_entry (End s) st.cursor st.known (Address r) refl) h;

@@ -23,7 +23,7 @@ module _ (ground : Ground) (Holds : Zone → State → Type 0) where
     -- the location counter at a place becomes known
     pub noted : (z : Zone) (i n : ℕ) (st : State) → Holds z st → Holds z (noted_at i n st)
     -- the location counter is set, and listed
-    pub set : (n counter : ℕ) (locations : List PlacedLocation) (st : State) → Holds (Free n) st → Holds (Free n) (record st { counter = counter; locations = locations })
+    pub located : (n counter : ℕ) (locations : List PlacedLocation) (st : State) → Holds (Free n) st → Holds (Free n) (record st { counter = counter; locations = locations })
     -- a section begins
     pub opened : (s n : ℕ) (st : State) → IsUp st.counter (ground.facts s).alignment n → Holds (Free s) st → Holds (Inside s) (opened_at s n st)
     -- the rows of a chunk are placed
@@ -32,7 +32,7 @@ module _ (ground : Ground) (Holds : Zone → State → Type 0) where
     pub ended : (s : ℕ) (st : State) → lowest_sharing st.known (number_at st.known (Start s)) st.cursor s ≡ None → Holds (Inside s) st → Holds (Free (s + 1)) (ended_at s st)
 
   module _ (passes : Passes) where
-    open passes use {noted, set, opened, placed, ended}
+    open passes use {noted, located, opened, placed, ended}
 
     -- the same zone
     into : (x y : Zone) (st : State) → y ≡ x → Holds x st → Holds y st
@@ -46,7 +46,7 @@ module _ (ground : Ground) (Holds : Zone → State → Type 0) where
 
     effect_passes : (x : Zone) (p : Place) (y : Zone) (i : ℕ) (st next : State) → Turns x p y → effect ground i p st ≡ Ok next → Holds x st → Holds y next
     unfolding effect chunk_collected section_closed section_ended_after
-    effect_passes (Free n) (SetLocation e) y i st next turn goes h = into (Free n) y next turn (by_location (Holds (Free n)) ground i e st next goes (λ m value. set n m _ st h))
+    effect_passes (Free n) (SetLocation e) y i st next turn goes h = into (Free n) y next turn (by_location (Holds (Free n)) ground i e st next goes (λ m value. located n m _ st h))
     effect_passes (Free n) (Wait w task) y i st next turn goes h = into (Free n) y next turn (by_state (Holds (Free n)) st next goes h)
     effect_passes (Free n) (Collect None m) y i st next turn goes h = into (Free n) y next turn (by_state (Holds (Free n)) st next goes h)
     effect_passes (Free n) Idle y i st next turn goes h = into (Free n) y next turn (by_state (Holds (Free n)) st next goes h)
