@@ -97,7 +97,7 @@ named_value v = spec.named_value (scope v) v.statement (known v)
 abbrev pub from_start : Evaluator → Name → Whole → ℕ → Result Value Fault
 from_start v = spec.from_start (scope v) v.statement (known v)
 
--- what a symbol of one section is worth, as it is read in another
+-- what a symbol of a section is worth, as it is read in a section
 abbrev pub symbol_value_in : Evaluator → Name → Whole → Option ℕ → Option ℕ → Result Value Fault
 symbol_value_in v = spec.symbol_value_in (scope v) v.statement (known v)
 
@@ -115,7 +115,7 @@ value_whole v = spec.value_whole (scope v) v.statement (known v)
 
 -- ---- nodes with parts, where this many levels are left, on a path
 
--- an expression
+-- the value of an expression
 abbrev pub value : Evaluator → ℕ → List Name → Expression → Point → Result Value Fault
 value v = spec.value (scope v) v.statement (known v)
 
