@@ -23,9 +23,9 @@ use Rattle.wild_walk_laws.proofs.Entries.{not_both}
 use Rattle.wild_walk_laws.proofs.Growing.{dot_known, to_end}
 use Rattle.wild_walk_laws.proofs.Walked.{laid_walked}
 use Rattle.wild_plan_laws.specs.Holding.{LiesIn, RowHolds, SectionHolds, LaidSectionStands, AllIsKnown}
-use Rattle.wild_plan_laws.proofs.Kept.{kept_rows_have_addresses}
+use Rattle.wild_walk_laws.proofs.Kept.{kept_rows_have_addresses}
 use Rattle.wild_plan_laws.proofs.Laid.{GoesTo, goes_to, goes_to_one, After, Stands, nothing_after, stands_passes}
-use Rattle.wild_plan_laws.proofs.Numbered.{each_at}
+use Rattle.wild_walk_laws.proofs.Numbered.{each_at}
 
 module _ (c : Case) where
   abbrev pub fates : List (Option Kept)

@@ -28,8 +28,8 @@ use Rattle.wild_plan_spec.specs.Symbols.{is_at, unlisted, listed_symbol, assignm
 use Rattle.wild_walk_laws.specs.Holding.{IsKnown}
 use Rattle.wild_walk_laws.proofs.Having.{Has, has_either}
 use Rattle.wild_plan_laws.proofs.Apart.{all_is_known, rows_lie_in_sections}
-use Rattle.wild_plan_laws.proofs.Kept.{kept_lays}
-use Rattle.wild_plan_laws.proofs.Numbered.{position_within}
+use Rattle.wild_walk_laws.proofs.Kept.{kept_lays}
+use Rattle.wild_walk_laws.proofs.Numbered.{position_within}
 use Rattle.wild_plan_laws.proofs.Timely.{IsTimely, on, choose, IsPointKnown, IsDefinitionKnown, IsScopeKnown, full_timely, assert_timely}
 
 module _ (known : Known) where

@@ -20,7 +20,7 @@ use Rattle.wild_walk_laws.proofs.Steps.{IsUp, noted_at, opened_at, row_at, ended
 use Rattle.wild_walk_laws.proofs.Walked.{Passes}
 use Rattle.wild_plan_laws.specs.Holding.{RowHolds, SectionHolds, LaidSectionStands, Spans}
 use Rattle.wild_plan_laws.specs.Sharing.{NoneShares}
-use Rattle.wild_plan_laws.proofs.Numbered.{up_to}
+use Rattle.wild_walk_laws.proofs.Numbered.{up_to}
 use Rattle.wild_plan_laws.proofs.Sharing.{sharing_is_lowest}
 
 -- ---- what is not known yet

@@ -1,5 +1,3 @@
-pub mod Numbered
-pub mod Kept
 pub mod Sharing
 pub mod Laid
 pub mod Apart

@@ -3,7 +3,6 @@ use Rattle.std.proofs.Common.{◌≡◌, ◌∙◌, ℕ, zero, suc, ◌+◌, ◌
 use Rattle.std.specs.Prelude.{slice_get}
 use Rattle.std.specs.Option.{option_map}
 use Rattle.std.proofs.lemmas.Option.{slice_get-get_or}
-use Rattle.std.proofs.Math.Nat.{mod-eq_of_lt}
 use Rattle.wild_expression_tree.specs.declared.tree.Expression.{Expression}
 use Rattle.wild_script.specs.Tree.{Bytes}
 use Rattle.wild_value_spec.specs.Known.{Known, Start, Load, End, Address, number_at}
@@ -29,13 +28,12 @@ use Rattle.wild_plan_spec.specs.Symbols.{table_symbol, table_symbols}
 use Rattle.wild_walk_laws.proofs.Entries.{known_number}
 use Rattle.wild_walk_laws.proofs.Growing.{locations_hold}
 use Rattle.wild_walk_laws.proofs.Having.{IsAmong, has_before, has_after, has_there}
-use Rattle.wild_walk_laws.proofs.Offsets.{symbols_stand_in_rows}
 use Rattle.wild_walk_laws.proofs.Standing.{rows_stand_in_place}
 use Rattle.wild_plan_laws.specs.Holding as holding
 use Rattle.wild_plan_laws.specs.Listing.{Covers, Lists, LocationHolds, RowStands, SectionStands, SymbolStands}
 use Rattle.wild_plan_laws.proofs.Apart.{fates, names, facts_named, facts_are, sections_stand, rows_lie_in_sections, starts_below, sections_do_not_overlap, rows_do_not_overlap}
-use Rattle.wild_plan_laws.proofs.Kept.{kept_rows_have_addresses}
-use Rattle.wild_plan_laws.proofs.Numbered.{each_at, made_of}
+use Rattle.wild_walk_laws.proofs.Kept.{kept_rows_have_addresses}
+use Rattle.wild_walk_laws.proofs.Numbered.{each_at, made_of}
 
 -- ---- symbols of the table
 
@@ -45,7 +43,7 @@ at_address symbol s address = record { name = symbol.name; address = address; «
 
 module _ (known : Known) (fates : List (Option Kept)) where
   abbrev own_symbol : SymbolRow → Kept → PlacedSymbol
-  own_symbol symbol k = at_address symbol k.chunk.«section» ((number_at known (Address symbol.row) + symbol.offset) % 2 ^ 64)
+  own_symbol symbol k = at_address symbol k.chunk.«section» (number_at known (Address symbol.row) + symbol.offset)
 
   own_listed : (symbol : SymbolRow) (k : Kept) → slice_get fates symbol.row ≡ Some (Some k) → IsAmong (own_symbol symbol k) (table_symbol known symbol (symbol_chunk fates symbol))
   own_listed symbol k e = rw e (inl refl)
@@ -165,9 +163,8 @@ module _ (c : Case) (state : State) (f : IsLaid c state) where
   symbol_at : (found : List PlacedSymbol) (i : ℕ) (symbol : SymbolRow) (s address : ℕ) → slice_get c.inputs.symbols i ≡ Some symbol → IsAt symbol.row s address
       → IsAmong (at_address symbol s (address + symbol.offset)) (table_symbols state.known (fates c) c.inputs.symbols ++ found)
   symbol_at found i symbol s address there at =
-      let fits = symbols_stand_in_rows c state f i symbol there address at.placed in
       let number = known_number state.known (Address symbol.row) address at.placed in
-      let sum : (number_at state.known (Address symbol.row) + symbol.offset) % 2 ^ 64 ≡ address + symbol.offset = ap (λ (n : ℕ). (n + symbol.offset) % 2 ^ 64) number ∙ mod-eq_of_lt fits in
+      let sum : number_at state.known (Address symbol.row) + symbol.offset ≡ address + symbol.offset = ap (λ (n : ℕ). n + symbol.offset) number in
       has_before _ (table_symbols state.known (fates c) c.inputs.symbols) found
       (subst (λ (placed : PlacedSymbol). IsAmong placed (table_symbols state.known (fates c) c.inputs.symbols))
       (ap (at_address symbol at.kept.chunk.«section») sum ∙ ap (λ (n : ℕ). at_address symbol n (address + symbol.offset)) at.own)

@@ -3,7 +3,7 @@ use Rattle.std.proofs.Common.{◌≡◌, ℕ, zero, suc, ◌≤◌, Bool, true, 
 use Rattle.std.proofs.lemmas.Bool.{cases_order, ltb-true, ltb-false, both_ways}
 use Rattle.wild_value_spec.specs.Known.{Known, Start, number_at}
 use Rattle.wild_plan_spec.specs.Overlaps.{shares, lower_section, lowest_sharing}
-use Rattle.wild_plan_laws.proofs.Numbered.{up_to}
+use Rattle.wild_walk_laws.proofs.Numbered.{up_to}
 use Rattle.wild_plan_laws.specs.Sharing.{NoneShares, IsLowest, SharingIsLowest}
 
 module _ (known : Known) (start end : ℕ) where

@@ -21,12 +21,6 @@ pub fn sharing_is_lowest()
     ensures { (known : Known) (start end n : ℕ) → SharingIsLowest known start end n }
 {}
 
-/// Where all places are laid out, each row that is kept has an address.
-pub fn kept_rows_have_addresses()
-    ensures { (c : Case) (state : State) → IsLaid c state
-        → (r : ℕ) (k : Kept) → slice_get (fates_of c.tree c.inputs) r ≡ Some (Some k) → IsKnown state.known (Address r) }
-{}
-
 /// Where all places are laid out, each section, an orphan too, starts at a multiple of the largest alignment of its rows, is
 /// loaded where it starts, and ends no lower and below 2 ^ 64.
 pub fn sections_stand()

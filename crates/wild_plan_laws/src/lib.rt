@@ -5,7 +5,7 @@ mod laws;
 mod plans;
 
 pub use laws::{
-    all_is_known, end_is_late, kept_rows_have_addresses, rows_do_not_overlap, rows_lie_in_sections,
+    all_is_known, end_is_late, rows_do_not_overlap, rows_lie_in_sections,
     sections_do_not_overlap, sections_stand, sharing_is_lowest,
 };
 pub use plans::{

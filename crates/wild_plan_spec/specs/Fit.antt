@@ -18,6 +18,7 @@ use Rattle.wild_plan_spec.specs.Layout.{Layout, layout}
 use Rattle.wild_plan_spec.specs.Order.{IsOrdered, stands_before}
 use Rattle.wild_plan_spec.specs.Orphans.{places_of}
 use Rattle.wild_plan_spec.specs.Scopes.{scope_of}
+use Rattle.wild_plan_spec.specs.Settled.{IsSettled}
 use Rattle.wild_plan_spec.specs.Steps.{State}
 use Rattle.wild_plan_spec.specs.Walk.{Stands, Refuses}
 
@@ -79,11 +80,13 @@ module _ (script : Bytes) (inputs : InputTable) (options : PlanOptions) where
   abbrev pub IsFault : Fault → Type 0
   IsFault fault = IsParseFault script fault ⊎ IsLaterFault fault
 
-  -- It is the one plan that fits, and there is no fault.
+  -- It is the one plan that fits, and there is no fault. What its script sets and defines is worth its expressions over the
+  -- finished table, and no condition is 0.
   pub record IsThePlan (plan : Layout) : Type 0 where
     pub is : IsPlan plan
     pub only : (other : Layout) → IsPlan other → other ≡ plan
     pub no_fault : (fault : Fault) → IsFault fault → ⊥
+    pub settled : (f : IsPlan plan) → IsSettled (case_of f.script_tree) f.fits.state.known plan
 
   -- There is this fault, and no plan fits. Where the bytes have a tree it is the one fault.
   pub record IsTheFault (fault : Fault) : Type 0 where

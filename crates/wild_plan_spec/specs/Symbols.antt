@@ -1,5 +1,5 @@
 -- The symbols that a plan lists: those of the table, and after them those of the script.
-use Rattle.std.specs.Prelude.{ℕ, ◌+◌, ◌%◌, ◌^◌, Bool, false, ◌==◌, if◌then◌else◌, List, [], ◌∷◌, ◌++◌, Option, Some, None, Result, Ok}
+use Rattle.std.specs.Prelude.{ℕ, ◌+◌, Bool, false, ◌==◌, if◌then◌else◌, List, [], ◌∷◌, ◌++◌, Option, Some, None, Result, Ok}
 use Rattle.std.specs.Option.{option_to_list}
 use Rattle.wild_names.specs.declared.fault.Fault.{Fault}
 use Rattle.wild_expression_tree.specs.declared.tree.Expression.{Expression}
@@ -20,10 +20,10 @@ use Rattle.wild_plan_spec.specs.Points.{task_point}
 
 -- ---- of the table
 
--- a symbol of the table, in the chunk of its row; rows end below 2 ^ 64, so that this is the sum
+-- a symbol of the table, in the chunk of its row: so far after the start of the row
 abbrev pub table_symbol : Known → SymbolRow → Option Chunk → List PlacedSymbol
 table_symbol known s None = []
-table_symbol known s (Some chunk) = record { name = s.name; address = (number_at known (Address s.row) + s.offset) % 2 ^ 64; «section» = Some chunk.«section»; hidden = false } ∷ []
+table_symbol known s (Some chunk) = record { name = s.name; address = number_at known (Address s.row) + s.offset; «section» = Some chunk.«section»; hidden = false } ∷ []
 
 -- in table order
 abbrev pub table_symbols : Known → List (Option Kept) → List SymbolRow → List PlacedSymbol

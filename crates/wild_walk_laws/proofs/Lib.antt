@@ -7,3 +7,6 @@ pub mod Walked
 pub mod Chunked
 pub mod Standing
 pub mod Offsets
+pub mod Numbered
+pub mod Kept
+pub mod Settled

@@ -2,17 +2,20 @@
 
 ghost use Rattle.std.specs.Prelude.{◌≡◌, ℕ, ◌+◌, ◌^◌, ◌<◌, Some, length, slice_get};
 ghost use Rattle.wild_expression_tree.specs.declared.tree.Expression.{Expression};
+ghost use Rattle.wild_plan_spec.specs.declared.chunk.Kept.{Kept};
 ghost use Rattle.wild_plan_spec.specs.declared.row.InputTable.{InputTable};
 ghost use Rattle.wild_plan_spec.specs.declared.row.SymbolRow.{SymbolRow};
 ghost use Rattle.wild_plan_spec.specs.Case.{Case};
-ghost use Rattle.wild_plan_spec.specs.Fates.{section_names};
-ghost use Rattle.wild_plan_spec.specs.Fit.{IsLaid};
+ghost use Rattle.wild_plan_spec.specs.Fates.{fates_of, section_names};
+ghost use Rattle.wild_plan_spec.specs.Fit.{Fits, IsLaid};
+ghost use Rattle.wild_plan_spec.specs.Layout.{Layout};
 ghost use Rattle.wild_plan_spec.specs.Orphans.{places_of};
 ghost use Rattle.wild_plan_spec.specs.Places.{SetLocation};
+ghost use Rattle.wild_plan_spec.specs.Settled.{IsSettled};
 ghost use Rattle.wild_plan_spec.specs.Steps.{State};
 ghost use Rattle.wild_script.specs.declared.tree.LinkerScript.{LinkerScript};
 ghost use Rattle.wild_value_spec.specs.Known.{Address};
-ghost use Rattle.wild_walk_laws.specs.Holding.{LaidLocationHolds, StandInPlace};
+ghost use Rattle.wild_walk_laws.specs.Holding.{IsKnown, LaidLocationHolds, StandInPlace};
 ghost use Rattle.wild_walk_laws.specs.Nesting.{Free, Nests};
 
 /// The places of a script and its orphans open and close all sections in the order of their numbers, one after the
@@ -39,4 +42,16 @@ pub fn rows_stand_in_place()
 pub fn symbols_stand_in_rows()
     ensures { (c : Case) (state : State) → IsLaid c state
         → (i : ℕ) (s : SymbolRow) → slice_get c.inputs.symbols i ≡ Some s → (a : ℕ) → state.known (Address s.row) ≡ Some a → a + s.offset < 2 ^ 64 }
+{}
+
+/// Where all places are laid out, each row that is kept has an address.
+pub fn kept_rows_have_addresses()
+    ensures { (c : Case) (state : State) → IsLaid c state
+        → (r : ℕ) (k : Kept) → slice_get (fates_of c.tree c.inputs) r ≡ Some (Some k) → IsKnown state.known (Address r) }
+{}
+
+/// In a plan that fits, each location and each symbol of the script is listed with what its expression is worth over the
+/// finished table, and no condition is 0.
+pub fn plans_are_settled()
+    ensures { (c : Case) (plan : Layout) → (f : Fits c plan) → IsSettled c f.state.known plan }
 {}

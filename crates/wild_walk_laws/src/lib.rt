@@ -3,4 +3,7 @@
 
 mod laws;
 
-pub use laws::{locations_hold, places_nest, rows_stand_in_place, symbols_stand_in_rows};
+pub use laws::{
+    kept_rows_have_addresses, locations_hold, places_nest, plans_are_settled, rows_stand_in_place,
+    symbols_stand_in_rows,
+};

@@ -35,7 +35,7 @@ use Rattle.wild_walk_laws.proofs.Chunked.{kept_among}
 use Rattle.wild_walk_laws.proofs.Entries.{known_entry}
 use Rattle.wild_walk_laws.proofs.Growing.{Grows, rows_grow, end_grows, to_end}
 use Rattle.wild_walk_laws.proofs.Steps.{row_at, bind_ok, by_row, by_chunk}
-use Rattle.wild_plan_laws.proofs.Numbered.{each_at, made_of, position_within}
+use Rattle.wild_walk_laws.proofs.Numbered.{each_at, made_of, position_within}
 
 -- ---- rules
 
