@@ -38,7 +38,7 @@ pub record Grows (first second : State) : Type 0 where
 whole : (xs : List PlacedLocation) → IsPrefix xs xs
 whole xs = ([], sym (append-nil xs))
 
-grows_not : (s : State) → Grows s s
+pub grows_not : (s : State) → Grows s s
 grows_not s = record { known = λ x n h. h; locations = whole s.locations }
 
 pub grows_on : (r s u : State) → Grows r s → Grows s u → Grows r u
@@ -49,7 +49,7 @@ grows_on r s u f g = record {
 
 -- ---- steps
 
-row_grows : (c : ChunkRow) (st next : State) → row_placed c st ≡ Ok next → Grows st next
+pub row_grows : (c : ChunkRow) (st next : State) → row_placed c st ≡ Ok next → Grows st next
 row_grows c st next e = by_row (Grows st) c st next e (λ size end up sum fits. record { known = grown_entry (Address c.row) st.cursor st.known; locations = whole st.locations })
 
 pub rows_grow : (cs : List ChunkRow) (st next : State) → rows_placed cs st ≡ Ok next → Grows st next
@@ -60,7 +60,7 @@ pub chunk_grows : (cs : List ChunkRow) (st next : State) → chunk_placed cs st 
 chunk_grows cs st next e =
     by_chunk (Grows st) cs st next e (λ n up goes. let later = rows_grow cs (record st { cursor = n }) next goes in record { known = later.known; locations = later.locations })
 
-dot_grows : (i : ℕ) (p : Place) (st : State) → Grows st (dot_noted i p st)
+pub dot_grows : (i : ℕ) (p : Place) (st : State) → Grows st (dot_noted i p st)
 unfolding dot_noted
 dot_grows i p st = record { known = grown_entry (Dot i) (dot_before p st) st.known; locations = whole st.locations }
 
@@ -68,7 +68,7 @@ module _ (ground : Ground) where
   pub end_grows : (s : ℕ) (st next : State) → section_ended_alone ground s st ≡ Ok next → Grows st next
   end_grows s st next e = by_end (Grows st) ground s st next e (λ alone. record { known = grown_entry (End s) st.cursor st.known; locations = whole st.locations })
 
-  effect_grows : (i : ℕ) (p : Place) (st next : State) → effect ground i p st ≡ Ok next → Grows st next
+  pub effect_grows : (i : ℕ) (p : Place) (st next : State) → effect ground i p st ≡ Ok next → Grows st next
   unfolding effect chunk_collected section_closed section_ended_after
   effect_grows i (SetLocation e) st next goes =
       by_location (Grows st) ground i e st next goes (λ n value. record { known = λ x m h. h; locations = (record { statement = i; address = n } ∷ [], refl) })
@@ -86,7 +86,7 @@ module _ (ground : Ground) where
   effect_grows i (Wait w task) st next goes = by_state (Grows st) st next goes (grows_not st)
   effect_grows i Idle st next goes = by_state (Grows st) st next goes (grows_not st)
 
-  step_grows : (i : ℕ) (p : Place) (st next : State) → step ground i p st ≡ Ok next → Grows st next
+  pub step_grows : (i : ℕ) (p : Place) (st next : State) → step ground i p st ≡ Ok next → Grows st next
   unfolding step
   step_grows i p st next goes = grows_on st (dot_noted i p st) next (dot_grows i p st) (effect_grows i p (dot_noted i p st) next goes)
 

@@ -12,28 +12,28 @@ use Rattle.wild_script.specs.declared.tree.LinkerScript.{LinkerScript}
 use Rattle.wild_script.specs.declared.tree.SectionPattern.{SectionPattern}
 use Rattle.wild_value_spec.specs.Known.{Address}
 use Rattle.wild_plan_spec.specs.declared.chunk.Chunk.{Chunk}
-use Rattle.wild_plan_spec.specs.declared.chunk.Decision.{Decision}
+use Rattle.wild_plan_spec.specs.declared.chunk.ChunkRow.{ChunkRow}
 use Rattle.wild_plan_spec.specs.declared.chunk.Decision.TheVariants.{Discard, Keep, ByName}
+use Rattle.wild_plan_spec.specs.declared.chunk.Decision.{Decision}
 use Rattle.wild_plan_spec.specs.declared.chunk.Kept.{Kept}
 use Rattle.wild_plan_spec.specs.declared.row.InputRow.{InputRow}
 use Rattle.wild_plan_spec.specs.declared.row.InputTable.{InputTable}
+use Rattle.wild_plan_spec.specs.Case.{Case}
 use Rattle.wild_plan_spec.specs.Fates.{rule_decision, name_decision, decision, orphans_of, section_names, first_chunk, fate_by, fate, all_fates, fates_of}
+use Rattle.wild_plan_spec.specs.Fit.{IsLaid}
+use Rattle.wild_plan_spec.specs.Ground.{Ground, ground_of}
 use Rattle.wild_plan_spec.specs.Names.{Name}
 use Rattle.wild_plan_spec.specs.Orphans.{orphan_places, places_of}
 use Rattle.wild_plan_spec.specs.Places.{Place, Collect, Rows, Close, script_places}
 use Rattle.wild_plan_spec.specs.Rules.{Rule, rule_of, pattern_decision, pattern_rules, place_rules, rules_in, rules_of, takes_row, first_rule}
 use Rattle.wild_plan_spec.specs.Statements.{sections_of}
-use Rattle.wild_plan_spec.specs.declared.chunk.ChunkRow.{ChunkRow}
-use Rattle.wild_plan_spec.specs.Case.{Case}
-use Rattle.wild_plan_spec.specs.Fit.{IsLaid}
-use Rattle.wild_plan_spec.specs.Ground.{Ground, ground_of}
 use Rattle.wild_plan_spec.specs.Steps.{State, row_placed, rows_placed, chunk_placed, chunk_collected, section_ended_alone, section_ended_after, section_closed, dot_noted, effect, step}
 use Rattle.wild_walk_laws.specs.Holding.{IsKnown}
-use Rattle.wild_walk_laws.proofs.Having.{Has, has_before, has_either, has_found, has_there}
-use Rattle.wild_walk_laws.proofs.Nesting.{Lays, first_of, first_laid}
 use Rattle.wild_walk_laws.proofs.Chunked.{kept_among}
 use Rattle.wild_walk_laws.proofs.Entries.{known_entry}
 use Rattle.wild_walk_laws.proofs.Growing.{Grows, rows_grow, end_grows, to_end}
+use Rattle.wild_walk_laws.proofs.Having.{Has, has_before, has_either, has_found, has_there}
+use Rattle.wild_walk_laws.proofs.Nesting.{Lays, first_of, first_laid}
 use Rattle.wild_walk_laws.proofs.Steps.{row_at, bind_ok, by_row, by_chunk}
 use Rattle.wild_walk_laws.proofs.Numbered.{each_at, made_of, position_within}
 
