@@ -1,19 +1,18 @@
 -- The first failure among checks that follow each other.
-use Rattle.std.proofs.Common.{◌≡◌, ◌∙◌, inl, inr, Bool, true, false, not, List, [], ◌∷◌, ◌++◌, cond, refl, Option, Some, None}
+use Rattle.std.proofs.Common.{◌≡◌, ◌∙◌, inl, inr, not, List, ◌++◌, refl, ap, Option, Some, None}
 use Rattle.std.specs.Option.{option_map, option_or}
+use Rattle.std.proofs.lemmas.List.Folds.{find-append}
 use Rattle.wild_names.specs.declared.fault.Fault.{Fault}
 use Rattle.wild_plan_spec.specs.Checks.{Check, failing}
 use Rattle.wild_fates.specs.Passes.{IsWanted}
 
-failing_by : (b : Bool) (c : Check) (first both next : Option Check) → option_map (λ c. c.fault) both ≡ option_or (option_map (λ c. c.fault) first) (option_map (λ c. c.fault) next)
-    → option_map (λ c. c.fault) (cond b (Some c) both) ≡ option_or (option_map (λ c. c.fault) (cond b (Some c) first)) (option_map (λ c. c.fault) next)
-failing_by true c first both next e = refl
-failing_by false c first both next e = e
+failing_or : (first next : Option Check) → option_map (λ c. c.fault) (option_or first next) ≡ option_or (option_map (λ c. c.fault) first) (option_map (λ c. c.fault) next)
+failing_or None next = refl
+failing_or (Some c) next = refl
 
 -- the first failure of the first checks, or else that of the others
 pub failing_append : (xs ys : List Check) → failing (xs ++ ys) ≡ option_or (failing xs) (failing ys)
-failing_append [] ys = refl
-failing_append (c ∷ xs) ys = failing_by (not c.holds) c _ _ _ (failing_append xs ys)
+failing_append xs ys = ap (option_map (λ c. c.fault)) (find-append (λ c. not c.holds) xs ys) ∙ failing_or _ _
 
 -- where none of the first fails, the others decide
 pub failing_after : (xs ys : List Check) → failing xs ≡ None → failing (xs ++ ys) ≡ failing ys

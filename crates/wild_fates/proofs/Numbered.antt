@@ -1,5 +1,6 @@
 -- Rules whose ids are the numbers of chunks decide what the rules of a script do.
-use Rattle.std.proofs.Common.{◌≡◌, ◌∙◌, ℕ, ◌+◌, Bool, true, false, List, [], ◌∷◌, ◌++◌, length, cond, refl, sym, ap, Option, Some, None, Result, Ok, Err, arith}
+use Rattle.std.proofs.Common.{◌≡◌, ◌∙◌, ℕ, Bool, true, false, List, [], ◌∷◌, ◌++◌, length, cond, refl, sym, ap, Option, Some, None, Result, Ok, Err}
+use Rattle.std.proofs.lemmas.List.{append_assoc}
 use Rattle.std.specs.Prelude.{slice_get}
 use Rattle.std.specs.List.{find}
 use Rattle.wild_glob.specs.declared.piece.Piece.{Piece}
@@ -9,7 +10,6 @@ use Rattle.wild_rules.specs.Lookup as lookup
 use Rattle.wild_rules.specs.Making as making
 use Rattle.wild_rules.specs.Rule as rules
 use Rattle.wild_rules.specs.Taking.{takes}
-use Rattle.wild_script.specs.declared.tree.Matcher.{Matcher}
 use Rattle.wild_script.specs.declared.tree.SectionPattern.{SectionPattern}
 use Rattle.wild_plan_spec.specs.declared.chunk.Chunk.{Chunk}
 use Rattle.wild_plan_spec.specs.declared.chunk.Decision.{Decision}
@@ -17,9 +17,9 @@ use Rattle.wild_plan_spec.specs.declared.chunk.Decision.TheVariants.{ByName}
 use Rattle.wild_plan_spec.specs.declared.row.InputRow.{InputRow}
 use Rattle.wild_plan_spec.specs.Fates.{name_decision, rule_decision}
 use Rattle.wild_plan_spec.specs.Names.{Name}
-use Rattle.wild_plan_spec.specs.Places.{Place, SetLocation, Within, Outside, Open, Collect, Rows, Close, Idle}
-use Rattle.wild_plan_spec.specs.Rules.{Rule, rule_of, pattern_decision, pattern_rules, rules_in, takes_row}
-use Rattle.wild_fates.specs.Numbered.{outcome_decision, plan_rule, plan_rules, outcome_for, rule_list, numbered_patterns, number_for, numbered_place, numbered_rules, chunks_in}
+use Rattle.wild_plan_spec.specs.Places.{Place, Collect}
+use Rattle.wild_plan_spec.specs.Rules.{Rule, rule_of, pattern_decision, pattern_rules, place_rules, rules_in, takes_row}
+use Rattle.wild_fates.specs.Numbered.{outcome_decision, plan_rule, plan_rules, outcome_for, rule_list, numbered_patterns, numbered_place, numbered_rules, chunks_at, chunks_in}
 
 -- ---- the rule that decides
 
@@ -67,42 +67,22 @@ module _ (chunks : List Chunk) (k : Option ℕ) (q : Option Chunk) (must_keep : 
       ∙ ap (λ (zs : List Rule). rule_of (making.files_of file) (making.names_of p.name) (pattern_decision q p) ++ zs) (patterns_plan_rules file ps)
 
 -- the chunk after others
-chunk_there : (before : List Chunk) (q : Chunk) (after : List Chunk) → slice_get (before ++ q ∷ after) (length before) ≡ Some q
+chunk_there : (before : List Chunk) (q : Chunk) (after : List Chunk) → slice_get ((before ++ q ∷ []) ++ after) (length before) ≡ Some q
 chunk_there [] q after = refl
 chunk_there (c ∷ before) q after = chunk_there before q after
 
-one_before : (before : List Chunk) (q : Chunk) (after : List Chunk) → (before ++ q ∷ []) ++ after ≡ before ++ q ∷ after
-one_before [] q after = refl
-one_before (c ∷ before) q after = ap (λ (zs : List Chunk). c ∷ zs) (one_before before q after)
+place_plan_rules : (before : List Chunk) (p : Place) (after : List Chunk) → plan_rules ((before ++ chunks_at p) ++ after) (numbered_place before p) ≡ place_rules p
+place_plan_rules before (Collect None m) after = patterns_plan_rules _ None None m.must_keep (λ p. refl) m.input_file_pattern m.input_section_name_patterns
+place_plan_rules before (Collect (Some q) m) after = patterns_plan_rules _ (Some (length before)) (Some q) m.must_keep (λ p. rw (chunk_there before q after) refl) m.input_file_pattern m.input_section_name_patterns
+place_plan_rules before p after = refl
 
-length_more : (before : List Chunk) (q : Chunk) → length (before ++ q ∷ []) ≡ length before + 1
-length_more [] q = refl
-length_more (c ∷ before) q = let e = length_more before q in omega (arith, e)
-
-matcher_plan_rules : (chunks : List Chunk) (k : ℕ) (q : Option Chunk) (m : Matcher) (ps : List Place) (others : List rules.Rule)
-    → ((p : SectionPattern) → outcome_decision chunks (outcome_for (number_for k q) m.must_keep p) ≡ pattern_decision q p) → plan_rules chunks others ≡ rules_in ps → plan_rules chunks (numbered_place k (Collect q m) ++ others) ≡ rules_in (Collect q m ∷ ps)
-matcher_plan_rules chunks k q m ps others same rest =
-    plan_rules_append chunks (numbered_place k (Collect q m)) others
-    ∙ ap (λ (zs : List Rule). zs ++ plan_rules chunks others) (patterns_plan_rules chunks (number_for k q) q m.must_keep same m.input_file_pattern m.input_section_name_patterns)
-    ∙ ap (λ (zs : List Rule). pattern_rules q m.input_file_pattern m.input_section_name_patterns ++ zs) rest
-
-rules_from : (before : List Chunk) (ps : List Place) → plan_rules (before ++ chunks_in ps) (numbered_rules (length before) ps) ≡ rules_in ps
+rules_from : (before : List Chunk) (ps : List Place) → plan_rules (before ++ chunks_in ps) (numbered_rules before ps) ≡ rules_in ps
 rules_from before [] = refl
-rules_from before (Collect None m ∷ ps) = matcher_plan_rules (before ++ chunks_in ps) (length before) None m ps (numbered_rules (length before) ps) (λ p. refl) (rules_from before ps)
-rules_from before (Collect (Some q) m ∷ ps) =
-    matcher_plan_rules (before ++ q ∷ chunks_in ps) (length before) (Some q) m ps (numbered_rules (length before + 1) ps)
-    (λ p. rw (chunk_there before q (chunks_in ps)) refl)
-    (ap (λ (cs : List Chunk). plan_rules cs (numbered_rules (length before + 1) ps)) (sym (one_before before q (chunks_in ps)))
-    ∙ ap (λ (n : ℕ). plan_rules ((before ++ q ∷ []) ++ chunks_in ps) (numbered_rules n ps)) (sym (length_more before q))
-    ∙ rules_from (before ++ q ∷ []) ps)
-rules_from before (SetLocation e ∷ ps) = rules_from before ps
-rules_from before (Within task ∷ ps) = rules_from before ps
-rules_from before (Outside task ∷ ps) = rules_from before ps
-rules_from before (Open s ∷ ps) = rules_from before ps
-rules_from before (Rows q ∷ ps) = rules_from before ps
-rules_from before (Close s rest ∷ ps) = rules_from before ps
-rules_from before (Idle ∷ ps) = rules_from before ps
+rules_from before (p ∷ ps) =
+    ap (λ (cs : List Chunk). plan_rules cs (numbered_rules before (p ∷ ps))) (sym (append_assoc before (chunks_at p) (chunks_in ps)))
+    ∙ plan_rules_append _ (numbered_place before p) (numbered_rules (before ++ chunks_at p) ps)
+    ∙ rw (place_plan_rules before p (chunks_in ps), rules_from (before ++ chunks_at p) ps) refl
 
 -- the rules of places
-pub rules_are : (ps : List Place) → plan_rules (chunks_in ps) (numbered_rules 0 ps) ≡ rules_in ps
+pub rules_are : (ps : List Place) → plan_rules (chunks_in ps) (numbered_rules [] ps) ≡ rules_in ps
 rules_are ps = rules_from [] ps

@@ -1,5 +1,5 @@
 -- Rules whose ids are the numbers of chunks, and what they decide.
-use Rattle.std.specs.Prelude.{ℕ, Bool, List, [], ◌∷◌, ◌++◌, slice_get, Option, Some, None, Result, Ok, Err}
+use Rattle.std.specs.Prelude.{ℕ, Bool, List, [], ◌∷◌, ◌++◌, length, slice_get, Option, Some, None, Result, Ok, Err}
 use Rattle.std.specs.Option.{option_to_list}
 use Rattle.wild_rules.specs.declared.fault.RuleFault.{RuleFault}
 use Rattle.wild_rules.specs.declared.outcome.SectionRuleOutcome.{SectionRuleOutcome}
@@ -11,7 +11,7 @@ use Rattle.wild_plan_spec.specs.declared.chunk.Chunk.{Chunk}
 use Rattle.wild_plan_spec.specs.declared.chunk.Decision.{Decision}
 use Rattle.wild_plan_spec.specs.declared.chunk.Decision.TheVariants as decides
 use Rattle.wild_plan_spec.specs.Names.{Name}
-use Rattle.wild_plan_spec.specs.Places.{Place, Collect, next_chunk}
+use Rattle.wild_plan_spec.specs.Places.{Place, Collect}
 use Rattle.wild_plan_spec.specs.Rules.{Rule}
 
 -- ---- what a rule decides
@@ -52,27 +52,25 @@ abbrev pub numbered_patterns : Option ℕ → Bool → Option Name → List Sect
 numbered_patterns k must_keep file [] = []
 numbered_patterns k must_keep file (p ∷ ps) = rule_list (script_rule p.name file (outcome_for k must_keep p)) ++ numbered_patterns k must_keep file ps
 
--- the number of a chunk after k chunks
-abbrev pub number_for : ℕ → Option Chunk → Option ℕ
-number_for k None = None
-number_for k (Some q) = Some k
+-- the number of a chunk after these
+abbrev pub number_for : List Chunk → Option Chunk → Option ℕ
+number_for before None = None
+number_for before (Some q) = Some (length before)
 
--- the rules of a place after k chunks
-abbrev pub numbered_place : ℕ → Place → List rules.Rule
-numbered_place k (Collect q m) = numbered_patterns (number_for k q) m.must_keep m.input_file_pattern m.input_section_name_patterns
-numbered_place k p = []
-
--- the rules of places, of which the first is after k chunks
-abbrev pub numbered_rules : ℕ → List Place → List rules.Rule
-numbered_rules k [] = []
-numbered_rules k (p ∷ ps) = numbered_place k p ++ numbered_rules (next_chunk k p) ps
-
--- ---- the chunks that have numbers
+-- the rules of a place after these chunks
+abbrev pub numbered_place : List Chunk → Place → List rules.Rule
+numbered_place before (Collect q m) = numbered_patterns (number_for before q) m.must_keep m.input_file_pattern m.input_section_name_patterns
+numbered_place before p = []
 
 -- the chunk of a matcher, if it has one
 abbrev pub chunks_at : Place → List Chunk
 chunks_at (Collect q m) = option_to_list q
 chunks_at p = []
+
+-- the rules of places, of which the first is after these chunks
+abbrev pub numbered_rules : List Chunk → List Place → List rules.Rule
+numbered_rules before [] = []
+numbered_rules before (p ∷ ps) = numbered_place before p ++ numbered_rules (before ++ chunks_at p) ps
 
 -- the chunks of all matchers
 abbrev pub chunks_in : List Place → List Chunk

@@ -1,5 +1,5 @@
 -- Statements and places as they are kept, with their parts borrowed, and what they are.
-use Rattle.std.specs.Prelude.{List, [], ◌∷◌, Option, Some, None}
+use Rattle.std.specs.Prelude.{List, [], ◌∷◌}
 use Rattle.wild_plan_spec.specs.Statements as statements
 use Rattle.wild_plan_spec.specs.Places as spec
 use Rattle.wild_fates.specs.declared.statements.Statement.{Statement}
@@ -7,7 +7,7 @@ use Rattle.wild_fates.specs.declared.statements.Statement.TheVariants.{Inner, Ou
 use Rattle.wild_fates.specs.declared.places.Task.{Task}
 use Rattle.wild_fates.specs.declared.places.Task.TheVariants.{Assign, Provide, Locate, Check}
 use Rattle.wild_fates.specs.declared.places.Place.{Place}
-use Rattle.wild_fates.specs.declared.places.Place.TheVariants.{SetLocation, Within, Outside, Open, Collect, Rows, Close, Idle}
+use Rattle.wild_fates.specs.declared.places.Place.TheVariants.{SetLocation, Wait, Open, Collect, Rows, Close, Idle}
 
 -- a statement, without that it is borrowed
 abbrev pub shown_statement : Statement → statements.Statement
@@ -20,22 +20,16 @@ shown_statements [] = []
 shown_statements (s ∷ ss) = shown_statement s ∷ shown_statements ss
 
 -- a task, without that it is borrowed
-abbrev pub bare_task : Task → spec.Task
-bare_task (Assign name e) = spec.Assign name.now e.now
-bare_task (Provide d) = spec.Provide d.now
-bare_task (Locate e) = spec.Locate e.now
-bare_task (Check c) = spec.Check c.now
-
--- the same of a task, if there is one
-abbrev pub shown_task : Option Task → Option spec.Task
-shown_task None = None
-shown_task (Some task) = Some (bare_task task)
+abbrev pub shown_task : Task → spec.Task
+shown_task (Assign name e) = spec.Assign name.now e.now
+shown_task (Provide d) = spec.Provide d.now
+shown_task (Locate e) = spec.Locate e.now
+shown_task (Check c) = spec.Check c.now
 
 -- a place, without that it is borrowed
 abbrev pub shown_place : Place → spec.Place
 shown_place (SetLocation e) = spec.SetLocation e.now
-shown_place (Within task) = spec.Within (bare_task task)
-shown_place (Outside task) = spec.Outside (bare_task task)
+shown_place (Wait w task) = spec.Wait w (shown_task task)
 shown_place (Open s) = spec.Open s
 shown_place (Collect q m) = spec.Collect q m.now
 shown_place (Rows q) = spec.Rows q

@@ -1,16 +1,16 @@
 //! The places of a script, as one numbered list.
 
 ghost use Rattle.std.specs.Prelude.{◌≡◌, ◌<◌, ◌+◌, ◌-◌, ◌^◌, [], ◌∷◌, ◌++◌, if◌then◌else◌, OnOk, IfOk};
-ghost use Rattle.wild_plan_spec.specs.Places.{task_of, contents_places, rest_chunk, section_places, discarding_places, discard_places, inner_places, outer_places, statement_places, next_section, all_places};
+ghost use Rattle.wild_plan_spec.specs.Places.{contents_places, rest_chunk, section_places, discarding_places, discard_places, inner_places, outer_places, statement_places, next_section, all_places};
 ghost use Rattle.wild_plan_spec.specs.Statements.{is_discard};
 ghost use Rattle.wild_fates.specs.Orphaned.{orphan_place, orphans_from};
-ghost use Rattle.wild_fates.specs.Shown.{shown_places, shown_place, shown_task, shown_statement, shown_statements};
+ghost use Rattle.wild_fates.specs.Shown.{shown_places, shown_place, shown_statement, shown_statements};
 
 use crate::statements::{Statement, is_discard};
 use sqlite_items::Items;
 use std::alloc::Global;
 use wild_base::{Name, NoMemory};
-use wild_plan_spec::Chunk;
+use wild_plan_spec::{Chunk, Where};
 use wild_script::{
     AssertCommand, Command, ContentsCommand, Expression, Matcher, ProvideSymbolDefinition, Section,
     SectionCommand,
@@ -34,10 +34,8 @@ pub enum Task<'a> {
 pub enum Place<'a> {
     /// The location counter becomes the value of the expression.
     SetLocation(&'a Expression),
-    /// A task in SECTIONS.
-    Within(Task<'a>),
-    /// The task of an outermost statement.
-    Outside(Task<'a>),
+    /// A task, which waits until all places are laid out.
+    Wait(Where, Task<'a>),
     /// The section of this number begins.
     Open(usize),
     /// A matcher, with the rows of the chunk for which it collects; those of `/DISCARD/` collect for none.
@@ -48,18 +46,6 @@ pub enum Place<'a> {
     Close(usize, Option<Chunk>),
     /// `/DISCARD/` begins or ends, which does nothing.
     Idle,
-}
-
-impl<'a> Place<'a> {
-    /// The task of the place.
-    pub fn task(&self) -> Option<Task<'a>>
-        ensures { shown_task result ≡ task_of (shown_place self.now) }
-    {
-        match *self {
-            Place::Within(task) | Place::Outside(task) => Some(task),
-            _ => None,
-        }
-    }
 }
 
 #[tactic(auto, using(crate::proofs::Shown::shown_append))]
@@ -166,12 +152,12 @@ fn push_inner<'a>(
         }
         SectionCommand::SymbolAssignment(assignment) => push(
             places,
-            Place::Within(Task::Assign(&assignment.name, &assignment.expr)),
+            Place::Wait(Where::Between, Task::Assign(&assignment.name, &assignment.expr)),
         ),
         SectionCommand::Provide(definition) => {
-            push(places, Place::Within(Task::Provide(definition)))
+            push(places, Place::Wait(Where::Between, Task::Provide(definition)))
         }
-        SectionCommand::Assert(command) => push(places, Place::Within(Task::Check(command))),
+        SectionCommand::Assert(command) => push(places, Place::Wait(Where::Between, Task::Check(command))),
     }
 }
 
@@ -180,13 +166,13 @@ fn push_outer<'a>(places: &mut Items<Place<'a>>, command: &'a Command) -> Result
 {
     match command {
         Command::SymbolDefinition { name, value } => {
-            push(places, Place::Outside(Task::Assign(name, value)))
+            push(places, Place::Wait(Where::Outermost, Task::Assign(name, value)))
         }
         Command::SetLocation(location) => {
-            push(places, Place::Outside(Task::Locate(&location.address)))
+            push(places, Place::Wait(Where::Outermost, Task::Locate(&location.address)))
         }
-        Command::Provide(definition) => push(places, Place::Outside(Task::Provide(definition))),
-        Command::Assert(command) => push(places, Place::Outside(Task::Check(command))),
+        Command::Provide(definition) => push(places, Place::Wait(Where::Outermost, Task::Provide(definition))),
+        Command::Assert(command) => push(places, Place::Wait(Where::Outermost, Task::Check(command))),
         Command::Sections(_) => Ok(()),
     }
 }

@@ -1,11 +1,11 @@
 //! The rules by which a script decides of input sections, and what is checked as they are made.
 
-ghost use Rattle.std.specs.Prelude.{◌≡◌, ◌⊎◌, ◌<◌, ◌^◌, ◌++◌, [], ◌∷◌, IfOk, OnOk, Option, Some, length};
+ghost use Rattle.std.specs.Prelude.{◌≡◌, ◌⊎◌, ◌<◌, ◌^◌, ◌++◌, [], ◌∷◌, IfOk, OnOk, Option, Some};
 ghost use Rattle.std.specs.Option.{option_copied, option_to_list};
 ghost use Rattle.wild_names.specs.declared.fault.Fault.TheVariants as fault;
 ghost use Rattle.wild_rules.specs.declared.fault.RuleFault.TheVariants as why;
 ghost use Rattle.wild_rules.specs.Making.{script_rule};
-ghost use Rattle.wild_plan_spec.specs.Checks.{is_task_built, is_place_built, chunk_checks, pattern_check, pattern_checks, matcher_checks, checks_at, place_checks, failing};
+ghost use Rattle.wild_plan_spec.specs.Checks.{is_task_built, is_place_built, pattern_check, pattern_checks, matcher_checks, checks_at, place_checks, failing};
 ghost use Rattle.wild_plan_spec.specs.Fates.{name_decision};
 ghost use Rattle.wild_plan_spec.specs.Rules.{rules_in};
 ghost use Rattle.wild_fates.specs.Numbered.{outcome_decision, outcome_for, rule_list, numbered_patterns, numbered_place, number_for, chunks_at, chunks_in, numbered_rules};
@@ -158,6 +158,7 @@ fn pattern_rule(
 }
 
 // The rules of a matcher after the others.
+#[tactic(auto, using(crate::proofs::Failing::failing_after, crate::proofs::Failing::failing_before))]
 fn push_patterns(
     alloc: Global,
     rules: &mut Items<SectionRule>,
@@ -176,15 +177,14 @@ fn push_patterns(
 
 // ---- places
 
-fn is_task_built(task: Option<Task<'_>>) -> bool
+fn is_task_built(task: Task<'_>) -> bool
     ensures { result ≡ is_task_built (shown_task task.entry) }
 {
     match task {
-        None => true,
-        Some(Task::Assign(_, value)) => is_built(value, true),
-        Some(Task::Provide(definition)) => is_built(&definition.value, true),
-        Some(Task::Locate(address)) => is_built(address, true),
-        Some(Task::Check(command)) => is_built(command.expression.get(), true),
+        Task::Assign(_, value) => is_built(value, true),
+        Task::Provide(definition) => is_built(&definition.value, true),
+        Task::Locate(address) => is_built(address, true),
+        Task::Check(command) => is_built(command.expression.get(), true),
     }
 }
 
@@ -193,27 +193,26 @@ fn is_place_built(place: &Place<'_>) -> bool
 {
     match *place {
         Place::SetLocation(expression) => is_built(expression, false),
-        _ => is_task_built(place.task()),
+        Place::Wait(_, task) => is_task_built(task),
+        _ => true,
     }
 }
 
-// The number of a chunk, which it gets after the others, or none for none.
+// The number of a chunk, which it gets after the others, or none for none. There is no memory for more chunks than there
+// are numbers.
 fn number_chunk(
     chunks: &mut Items<Chunk>,
     chunk: Option<Chunk>,
-) -> Result<Option<OutputSectionId>, Fault>
+) -> Result<Option<OutputSectionId>, NoMemory>
     ensures pushed { OnOk result (chunks.new ≡ chunks.old ++ option_to_list chunk) }
-    ensures number { IfOk result (λ id. id ≡ number_for (length chunks.old) chunk) }
-    ensures passes { Passes (failing (chunk_checks (length chunks.old) chunk)) result }
+    ensures number { IfOk result (λ id. id ≡ number_for chunks.old chunk) }
 {
     let Some(chunk) = chunk else {
         return Ok(None);
     };
     let number = chunks.len();
     if number >= MAX_CHUNKS {
-        return Err(Fault::TooManySections {
-            count: number as u64,
-        });
+        return Err(NoMemory);
     }
     chunks.push(chunk)?;
     Ok(Some(OutputSectionId::from_usize(number)))
@@ -233,9 +232,9 @@ impl NumberedRules {
         statement: usize,
         place: &Place<'_>,
     ) -> Result<(), Fault>
-        ensures rules { OnOk result (self.new.rules ≡ self.old.rules ++ numbered_place (length self.old.chunks) (shown_place place.now)) }
+        ensures rules { OnOk result (self.new.rules ≡ self.old.rules ++ numbered_place self.old.chunks (shown_place place.now)) }
         ensures chunks { OnOk result (self.new.chunks ≡ self.old.chunks ++ chunks_at (shown_place place.now)) }
-        ensures passes { Passes (failing (matcher_checks statement (length self.old.chunks) (shown_place place.now))) result }
+        ensures passes { Passes (failing (matcher_checks statement (shown_place place.now))) result }
     {
         match *place {
             Place::Collect(chunk, matcher) => {
@@ -246,15 +245,16 @@ impl NumberedRules {
         }
     }
 
+    #[tactic(auto, using(crate::proofs::Failing::failing_after, crate::proofs::Failing::failing_before))]
     fn push_place(
         &mut self,
         alloc: Global,
         statement: usize,
         place: &Place<'_>,
     ) -> Result<(), Fault>
-        ensures rules { OnOk result (self.new.rules ≡ self.old.rules ++ numbered_place (length self.old.chunks) (shown_place place.now)) }
+        ensures rules { OnOk result (self.new.rules ≡ self.old.rules ++ numbered_place self.old.chunks (shown_place place.now)) }
         ensures chunks { OnOk result (self.new.chunks ≡ self.old.chunks ++ chunks_at (shown_place place.now)) }
-        ensures passes { Passes (failing (checks_at statement (length self.old.chunks) (shown_place place.now))) result }
+        ensures passes { Passes (failing (checks_at statement (shown_place place.now))) result }
     {
         self.push_matcher(alloc, statement, place)?;
         if is_place_built(place) {
@@ -265,10 +265,11 @@ impl NumberedRules {
     }
 }
 
+#[tactic(auto, using(crate::proofs::Failing::failing_after, crate::proofs::Failing::failing_before))]
 fn number_rules(alloc: Global, places: &[Place<'_>]) -> Result<NumberedRules, Fault>
-    ensures rules { IfOk result (λ numbered. numbered.rules ≡ numbered_rules 0 (shown_places places.now)) }
+    ensures rules { IfOk result (λ numbered. numbered.rules ≡ numbered_rules [] (shown_places places.now)) }
     ensures chunks { IfOk result (λ numbered. numbered.chunks ≡ chunks_in (shown_places places.now)) }
-    ensures passes { Passes (failing (place_checks 0 0 (shown_places places.now))) result }
+    ensures passes { Passes (failing (place_checks 0 (shown_places places.now))) result }
 {
     let mut numbered = NumberedRules {
         rules: Items::new(alloc),
@@ -280,12 +281,12 @@ fn number_rules(alloc: Global, places: &[Place<'_>]) -> Result<NumberedRules, Fa
     Ok(numbered)
 }
 
-/// The rules of these places, in their order. The fault is the first of a place: a pattern that has no reading, a chunk
-/// too many, or an expression that is not built.
+/// The rules of these places, in their order. The fault is the first of a place: a pattern that has no reading, or an
+/// expression that is not built.
 #[tactic(auto, using(crate::proofs::Numbered::rules_are))]
 pub fn find_rules(alloc: Global, places: &[Place<'_>]) -> Result<Rules, Fault>
     ensures rules { IfOk result (λ rules. rules ≡ rules_in (shown_places places.now)) }
-    ensures passes { Passes (failing (place_checks 0 0 (shown_places places.now))) result }
+    ensures passes { Passes (failing (place_checks 0 (shown_places places.now))) result }
 {
     let NumberedRules { rules, chunks } = number_rules(alloc, places)?;
     let rules = SectionRules::from_rules(alloc, rules.as_slice())?;

@@ -103,8 +103,8 @@ fn decide_by<'a>(
 ///
 /// # Errors
 ///
-/// First that of the first place that fails: a pattern without a reading, a chunk too many, or an expression that is not
-/// built. Then that of the first section with the name of an earlier one. NoMemory may come at any point.
+/// First that of the first place that fails: a pattern without a reading, or an expression that is not built. Then that
+/// of the first section with the name of an earlier one. NoMemory may come at any point.
 pub fn decide_fates<'a>(
     alloc: Global,
     script: &'a LinkerScript,
