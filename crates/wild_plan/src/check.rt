@@ -150,13 +150,14 @@ pub fn check<'a>(alloc: Global, case: &Case<'a>) -> Result<Definitions<'a>, Faul
     ensures sound { IfOk result (IsChecked (shown_case case.now)) }
     ensures failing { IfErr result (IsWanted (failing (checks (shown_case case.now)))) }
 {
-    let (rows, symbols) = (case.inputs.rows.as_slice(), case.inputs.symbols.as_slice());
     check_table(case.inputs)?;
     let script_fates = decide_fates(alloc, case.tree, case.inputs)?;
-    let (fates, places) = (script_fates.fates.as_slice(), script_fates.places.as_slice());
+    let fates = script_fates.fates.as_slice();
+    let places = script_fates.places.as_slice();
+    let symbols = case.inputs.symbols.as_slice();
     let mut entries = find_firm_entries(alloc, fates, symbols, places)?;
     let mut names = number_entries(alloc, entries.as_slice())?;
-    check_support(rows, fates)?;
+    check_support(case.inputs.rows.as_slice(), fates)?;
     push_provided_entries(alloc, &mut entries, &mut names, places)?;
     Ok(Definitions {
         script_fates,

@@ -1,21 +1,40 @@
 -- The parts of a plan, in their order.
-use Rattle.std.proofs.Common.{inl, inr, ⊎_elim}
+use Rattle.std.proofs.Common.{ap, inl, inr, ⊎_elim, ◌∙◌}
 use Rattle.std.proofs.lemmas.Result.{err_from_is_err_and}
-use Rattle.wild_plan.proofs.Composing.{lists_fit}
+use Rattle.wild_fates.specs.Shown.{shown_places}
+use Rattle.wild_plan.specs.Case.{shown_case}
+use Rattle.wild_plan.specs.Chunks.{rows_at}
+use Rattle.wild_plan.specs.Facts.{shown_all}
+use Rattle.wild_plan.specs.Moves.{state_of}
+use Rattle.wild_plan.proofs.Composing.{walk_refused, end_refused, lists_fit}
 use Rattle.wild_plan.proofs.pipeline.script_lists.Goals as goal
 
-pub returns-in_err-layout-clause-refused : goal.returns-in_err-layout-clause-refused
-returns-in_err-layout-clause-refused c =
-    let p = err_from_is_err_and c.from_residual-in_err-layout.result c.from_residual-in_err-layout.ensures.1 in
-    let ground = rw c.as_slice.ensures at c.in_ok-ground.ensures in
+pub returns-in_err-walk-clause-refused : goal.returns-in_err-walk-clause-refused
+returns-in_err-walk-clause-refused c =
+    let p = err_from_is_err_and c.from_residual-in_err-walk.result c.from_residual-in_err-walk.ensures.1 in
+    let checked = c.in_ok-definitions.ensures.sound in
+    let basis = c.in_ok-basis.ensures in
+    let places = ap shown_places c.as_slice-places.ensures ∙ checked.fates.places in
     rw (p.1, p.2) (⊎_elim (λ h. inl h)
-    (λ h. inr (h c.args.tree.now c.args.inputs.now c.in_ok-checked.ensures.sound ground))
-    c.in_err-layout.ensures.refused)
+    (λ h. inr (walk_refused (shown_case c.args.case.now) checked.sound _ basis.ordered _ c.ground_on-ground.ensures _ places _ h))
+    c.in_err-walk.ensures.refused)
+
+pub returns-in_err-found-clause-refused : goal.returns-in_err-found-clause-refused
+returns-in_err-found-clause-refused c =
+    let p = err_from_is_err_and c.from_residual-in_err-found.result c.from_residual-in_err-found.ensures.1 in
+    let checked = c.in_ok-definitions.ensures.sound in
+    let basis = c.in_ok-basis.ensures in
+    let places = ap shown_places c.as_slice-places.ensures ∙ checked.fates.places in
+    rw (p.1, p.2) (⊎_elim (λ h. inl h)
+    (λ h. inr (end_refused (shown_case c.args.case.now) checked.sound _ basis.ordered _ c.ground_on-ground.ensures _ places _ c.in_ok-walk.ensures.laid_out _ h))
+    c.in_err-found.ensures)
 
 pub returns-clause-fits : goal.returns-clause-fits
 returns-clause-fits c =
-    let t = c.args.tree.now in
-    let inputs = c.args.inputs.now in
-    let sound = c.in_ok-checked.ensures.sound in
-    let ground = rw c.as_slice.ensures at c.in_ok-ground.ensures in
-    lists_fit c.args.script.now t inputs c.in_ok-checked.checked sound c.in_ok-ground.ground ground c.in_ok-layout.layout (c.in_ok-layout.ensures.laid_out t inputs sound ground) c.in_ok-lists.lists c.in_ok-lists.ensures
+    let checked = c.in_ok-definitions.ensures.sound in
+    let basis = c.in_ok-basis.ensures in
+    let places = ap shown_places c.as_slice-places.ensures ∙ checked.fates.places in
+    lists_fit (shown_case c.args.case.now) checked.sound _ basis.ordered _ c.ground_on-ground.ensures _ places _ c.in_ok-walk.ensures.laid_out _ c.in_ok-found.ensures _ _ _
+    (c.as_slice-fates.ensures ∙ checked.fates.fates)
+    (ap shown_all c.as_slice.ensures ∙ basis.facts)
+    c.in_ok-lists.ensures
