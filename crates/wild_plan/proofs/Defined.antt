@@ -1,8 +1,9 @@
 -- What is defined by fates and places as they are kept is what a case defines.
-use Rattle.std.proofs.Common.{◌≡◌, ◌∙◌, ◌++◌, List, [], ap, sym, refl}
+use Rattle.std.proofs.Common.{◌≡◌, ◌∙◌, ◌++◌, List, [], length, ap, sym, refl}
 use Rattle.wild_fates.specs.declared.script_fates.ScriptFates.{ScriptFates}
 use Rattle.wild_fates.specs.Parts.{AreFates}
 use Rattle.wild_fates.specs.Shown.{shown_places}
+use Rattle.wild_fates.proofs.Orphans.{fates_length}
 use Rattle.wild_names.specs.declared.fault.Fault.TheVariants.{DuplicateSymbol}
 use Rattle.wild_plan_spec.specs.Case.{Case}
 use Rattle.wild_plan_spec.specs.Checks.{Check, name_checks, support_checks, symbol_name_checks}
@@ -11,7 +12,13 @@ use Rattle.wild_plan_spec.specs.Fates.{fates_of}
 use Rattle.wild_plan_spec.specs.Names.{Name}
 use Rattle.wild_plan_spec.specs.Orphans.{places_of}
 use Rattle.wild_plan_spec.specs.Scopes.{entries_of}
+use Rattle.wild_plan.specs.declared.definitions.Definitions.{Definitions}
+use Rattle.wild_plan.specs.Checked.{IsChecked}
 use Rattle.wild_plan.proofs.Entries.{names_append}
+
+-- each row has a fate
+pub fates_counted : (c : Case) (definitions : Definitions) → IsChecked c definitions → length definitions.script_fates.fates ≡ length c.inputs.rows
+fates_counted c definitions h = ap length h.fates.fates ∙ fates_length _ _ _
 
 module _ (c : Case) (script_fates : ScriptFates) (are : AreFates c.tree c.inputs script_fates) where
   pub support_same : support_checks 0 c.inputs.rows script_fates.fates ≡ support_checks 0 c.inputs.rows (fates_of c.tree c.inputs)

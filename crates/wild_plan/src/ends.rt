@@ -46,12 +46,7 @@ impl End<'_> {
         evaluator.full(path, expression, task_point(place, stand))
     }
 
-    fn assert_holds(
-        &self,
-        place: usize,
-        stand: Where,
-        command: &AssertCommand,
-    ) -> Result<(), Fault>
+    fn assert_holds(&self, place: usize, stand: Where, command: &AssertCommand) -> Result<(), Fault>
         ensures { Gives result (spec.assert_holds (scope self.now) (known self.now) place stand command.now) }
     {
         let evaluator = Evaluator {

@@ -1,11 +1,13 @@
 //! What the places of a script are laid out by.
 
 ghost use Rattle.std.specs.Prelude.{◌≡◌, IfOk};
+ghost use Rattle.wild_plan_spec.specs.Facts.{facts_of};
 ghost use Rattle.wild_plan_spec.specs.Ground.{ground_of};
 ghost use Rattle.wild_plan.specs.Basis.{IsBasis};
 ghost use Rattle.wild_plan.specs.Case.{shown_case};
 ghost use Rattle.wild_plan.specs.Checked.{IsChecked};
 ghost use Rattle.wild_plan.specs.Chunks.{rows_at};
+ghost use Rattle.wild_plan.specs.Facts.{shown_all};
 ghost use Rattle.wild_plan.specs.Ground.{shown_ground};
 
 use crate::case::Case;
@@ -77,7 +79,8 @@ pub fn find_basis<'a>(
 {
     let rows = case.inputs.rows.as_slice();
     let fates = definitions.script_fates.fates.as_slice();
-    let facts = find_facts(alloc, rows, fates, definitions.script_fates.names.as_slice())?;
+    let names = definitions.script_fates.names.as_slice();
+    let facts = find_facts(alloc, rows, fates, names)?;
     let alignments = alignments_in(alloc, facts.as_slice())?;
     let chunks = find_chunks(alloc, rows, fates)?;
     Ok(Basis {
@@ -96,7 +99,8 @@ pub fn ground_on<'a, 'b>(
 ) -> Ground<'a>
     requires checked { IsChecked (shown_case case.now) definitions.now }
     requires basis { IsBasis (shown_case case.now) basis.now }
-    ensures { shown_ground result ≡ ground_of (shown_case case.now) (rows_at basis.now.chunks) }
+    ensures ground { shown_ground result ≡ ground_of (shown_case case.now) (rows_at basis.now.chunks) }
+    ensures facts { shown_all result.facts.now ≡ facts_of case.now.tree.now case.now.inputs.now }
 {
     let names = &definitions.script_fates.names;
     let scope = Scope {

@@ -11,8 +11,7 @@ ghost use Rattle.wild_plan.specs.Moves.{state_of};
 use crate::case::Case;
 use crate::check::check;
 use crate::ends::End;
-use crate::facts::Facts;
-use crate::ground::{find_basis, ground_on};
+use crate::ground::{Ground, find_basis, ground_on};
 use crate::listing::{placed_inputs, placed_sections, row_names};
 use crate::lists::{Lists, Plan};
 use crate::symbols::table_symbols;
@@ -63,23 +62,23 @@ fn script_lists(alloc: Global, case: &Case<'_>) -> Result<Lists, Fault>
     };
     let found = end.final_symbols(places)?;
     let fates = definitions.script_fates.fates.as_slice();
-    let lists = list_all(alloc, case.inputs, fates, basis.facts.as_slice(), walk, found)?;
+    let lists = list_all(&ground, case.inputs, fates, walk, found)?;
     Ok(lists)
 }
 
 /// What a plan lists once all places are laid out, and these are the symbols of the script.
 fn list_all(
-    alloc: Global,
+    ground: &Ground<'_>,
     inputs: &InputTable,
     fates: &[Option<Kept>],
-    facts: &[Facts<'_>],
     walk: Walk,
     found: Items<PlacedSymbol>,
 ) -> Result<Lists, NoMemory>
-    ensures { IfOk result (IsListed inputs.now fates.now (shown_all facts.now) (state_of walk) found) }
+    ensures { IfOk result (IsListed inputs.now fates.now (shown_all ground.now.facts.now) (state_of walk) found) }
 {
+    let alloc = ground.alloc;
     let addresses = &walk.addresses;
-    let sections = placed_sections(alloc, addresses, facts)?;
+    let sections = placed_sections(alloc, addresses, ground.facts)?;
     let placements = placed_inputs(alloc, addresses, fates)?;
     let mut symbols = table_symbols(alloc, addresses, fates, inputs.symbols.as_slice())?;
     symbols.append(found)?;

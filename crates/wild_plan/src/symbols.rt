@@ -117,12 +117,7 @@ impl End<'_> {
     ) -> Result<Option<PlacedSymbol>, Fault>
         ensures { Returns result (spec.listed_symbol (scope self.now) (known self.now) place stand name.now expression.now hidden) }
     {
-        let address = self.full(
-            &Path::Through(name, &Path::Start),
-            place,
-            stand,
-            expression,
-        )?;
+        let address = self.full(&Path::Through(name, &Path::Start), place, stand, expression)?;
         Ok(Some(PlacedSymbol {
             name: name.copy(self.ground.alloc)?,
             address,
@@ -191,11 +186,7 @@ impl End<'_> {
     }
 
     #[tactic(auto, unfolding(wild_plan_spec::specs::Symbols::place_symbol))]
-    fn place_symbol(
-        &self,
-        number: usize,
-        place: &Place<'_>,
-    ) -> Result<Option<PlacedSymbol>, Fault>
+    fn place_symbol(&self, number: usize, place: &Place<'_>) -> Result<Option<PlacedSymbol>, Fault>
         ensures { Returns result (spec.place_symbol (scope self.now) (known self.now) number (shown_place place.now)) }
     {
         match *place {

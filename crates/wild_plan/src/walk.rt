@@ -263,12 +263,7 @@ impl Walk {
     }
 
     #[tactic(auto, unfolding(wild_plan_spec::specs::Steps::step))]
-    fn step(
-        &mut self,
-        ground: &Ground<'_>,
-        number: usize,
-        place: &Place<'_>,
-    ) -> Result<(), Fault>
+    fn step(&mut self, ground: &Ground<'_>, number: usize, place: &Place<'_>) -> Result<(), Fault>
         ensures { Moves result self.new (step (shown_ground ground.now) number (shown_place place.now) (state_of self.old)) }
     {
         self.note_dot(number, place)?;

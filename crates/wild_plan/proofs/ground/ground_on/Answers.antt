@@ -5,8 +5,11 @@ use Rattle.wild_plan.specs.Facts.{shown_all}
 use Rattle.wild_plan.proofs.Scopes.{ground_said}
 use Rattle.wild_plan.proofs.ground.ground_on.Goals as goal
 
-pub returns : goal.returns
-returns c =
+pub returns-clause-facts : goal.returns-clause-facts
+returns-clause-facts c = ap shown_all c.as_slice-4.ensures ∙ c.requires.basis.facts
+
+pub returns-clause-ground : goal.returns-clause-ground
+returns-clause-ground c =
     let checked = c.requires.checked in
     let basis = c.requires.basis in
     ground_said (shown_case c.args.case.now) _ _ _ _ _ _ _
