@@ -1,5 +1,5 @@
 -- The definitions at an evaluator's scope, statement and addresses.
-use Rattle.std.specs.Prelude.{ℕ, List, Option, Result}
+use Rattle.std.specs.Prelude.{ℕ, List, ◌∷◌, Option, Result}
 use Rattle.wild_names.specs.declared.fault.Fault.{Fault}
 use Rattle.wild_expression_tree.specs.declared.tree.Expression.{Expression}
 use Rattle.wild_expression_tree.specs.Shape.{shape}
@@ -11,6 +11,7 @@ use Rattle.wild_expression_tree.specs.declared.operator.Question.{Question}
 use Rattle.wild_expression_tree.specs.declared.operator.Unary.{Unary}
 use Rattle.wild_value_spec.specs.declared.value.Point.{Point}
 use Rattle.wild_value_spec.specs.declared.value.Value.{Value}
+use Rattle.wild_value_spec.specs.declared.value.Whole.{Whole}
 use Rattle.wild_value_spec.specs.Known.{Known}
 use Rattle.wild_value_spec.specs.Scope.{Name, Definition, Scope}
 use Rattle.wild_value_spec.specs.Value as spec
@@ -28,106 +29,144 @@ known v = known_of v.addresses.now
 
 -- ---- leaves
 
-abbrev pub dot_of : Evaluator → ℕ → Result ℕ Fault
+-- `.` of a point
+abbrev pub dot_of : Evaluator → Point → Result ℕ Fault
 dot_of v = spec.dot_of (scope v) v.statement (known v)
 
+-- the start of a section
 abbrev pub start_of : Evaluator → ℕ → Result ℕ Fault
 start_of v = spec.start_of (scope v) v.statement (known v)
 
+-- its load address
 abbrev pub load_of : Evaluator → ℕ → Result ℕ Fault
 load_of v = spec.load_of (scope v) v.statement (known v)
 
+-- its end
 abbrev pub end_of : Evaluator → ℕ → Result ℕ Fault
 end_of v = spec.end_of (scope v) v.statement (known v)
 
+-- the address of the row of a symbol
 abbrev pub row_of : Evaluator → Name → ℕ → Result ℕ Fault
 row_of v = spec.row_of (scope v) v.statement (known v)
 
+-- a comparison, over the full value of its left side
 abbrev pub judgement : Evaluator → Comparison → Point → ℕ → Value → Value → Result Value Fault
 judgement v = spec.judgement (scope v) v.statement (known v)
 
+-- the number that a value stands for at a point
 abbrev pub full_number : Evaluator → Point → Value → Result ℕ Fault
 full_number v = spec.full_number (scope v) v.statement (known v)
 
+-- the value of `.`
 abbrev pub counter : Evaluator → Point → Result Value Fault
 counter v = spec.counter (scope v) v.statement (known v)
 
+-- the number of `.` alone
 abbrev pub counter_number : Evaluator → Point → Result Value Fault
 counter_number v = spec.counter_number (scope v) v.statement (known v)
 
+-- the size of a section
 abbrev pub extent : Evaluator → ℕ → Result Value Fault
 extent v = spec.extent (scope v) v.statement (known v)
 
+-- SIZEOF
 abbrev pub size : Evaluator → Name → Result Value Fault
 size v = spec.size (scope v) v.statement (known v)
 
+-- ALIGNOF
 abbrev pub alignment : Evaluator → Name → Value
 alignment v = spec.alignment (scope v) v.statement (known v)
 
+-- ADDR
 abbrev pub start_named : Evaluator → Name → Result Value Fault
 start_named v = spec.start_named (scope v) v.statement (known v)
 
+-- LOADADDR
 abbrev pub load_named : Evaluator → Name → Result Value Fault
 load_named v = spec.load_named (scope v) v.statement (known v)
 
+-- DEFINED
 abbrev pub defined_value : Evaluator → Name → Value
 defined_value v = spec.defined_value (scope v) v.statement (known v)
 
+-- what is asked of a name
 abbrev pub named_value : Evaluator → Question → Name → Result Value Fault
 named_value v = spec.named_value (scope v) v.statement (known v)
 
-abbrev pub from_start : Evaluator → Name → ℕ → ℕ → ℕ → Result Value Fault
+-- what a symbol is worth, counted from the start of its section
+abbrev pub from_start : Evaluator → Name → Whole → ℕ → Result Value Fault
 from_start v = spec.from_start (scope v) v.statement (known v)
 
-abbrev pub symbol_value_in : Evaluator → Name → ℕ → ℕ → Option ℕ → Option ℕ → Result Value Fault
+-- what a symbol of one section is worth, as it is read in another
+abbrev pub symbol_value_in : Evaluator → Name → Whole → Option ℕ → Option ℕ → Result Value Fault
 symbol_value_in v = spec.symbol_value_in (scope v) v.statement (known v)
 
-abbrev pub symbol_value : Evaluator → Name → Option ℕ → Point → ℕ → ℕ → Result Value Fault
+-- the same, as it is read at a point
+abbrev pub symbol_value : Evaluator → Name → Option ℕ → Point → Whole → Result Value Fault
 symbol_value v = spec.symbol_value (scope v) v.statement (known v)
 
-abbrev pub table_symbol : Evaluator → Name → ℕ → ℕ → ℕ → Point → Result Value Fault
-table_symbol v = spec.table_symbol (scope v) v.statement (known v)
+-- what a symbol of the table is worth
+abbrev pub row_whole : Evaluator → Name → ℕ → ℕ → Result Whole Fault
+row_whole v = spec.row_whole (scope v) v.statement (known v)
+
+-- the number that a value stands for, and its height
+abbrev pub value_whole : Evaluator → Point → Value → Result Whole Fault
+value_whole v = spec.value_whole (scope v) v.statement (known v)
 
 -- ---- nodes with parts, where this many levels are left, on a path
 
+-- an expression
 abbrev pub value : Evaluator → ℕ → List Name → Expression → Point → Result Value Fault
 value v = spec.value (scope v) v.statement (known v)
 
+-- arithmetic of two sides
 abbrev pub arithmetic_value : Evaluator → ℕ → List Name → Arithmetic → Expression → Expression → Point → Result Value Fault
 arithmetic_value v h = spec.arithmetic_value (scope v) v.statement (known v) (value v h)
 
+-- a quotient or a remainder
 abbrev pub division_value : Evaluator → ℕ → List Name → Division → Expression → Expression → Point → Result Value Fault
 division_value v h = spec.division_value (scope v) v.statement (known v) (value v h)
 
+-- a comparison of two sides
 abbrev pub comparison_value : Evaluator → ℕ → List Name → Comparison → Expression → Expression → Point → Result Value Fault
 comparison_value v h = spec.comparison_value (scope v) v.statement (known v) (value v h)
 
+-- `&&` and `||`
 abbrev pub connective_value : Evaluator → ℕ → List Name → Connective → Expression → Expression → Point → Result Value Fault
 connective_value v h = spec.connective_value (scope v) v.statement (known v) (value v h)
 
+-- `!`, `~` and `-`
 abbrev pub unary_value : Evaluator → ℕ → List Name → Unary → Expression → Point → Result Value Fault
 unary_value v h = spec.unary_value (scope v) v.statement (known v) (value v h)
 
+-- the side that a condition chooses
 abbrev pub ternary_value : Evaluator → ℕ → List Name → Expression → Expression → Expression → Point → Result Value Fault
 ternary_value v h = spec.ternary_value (scope v) v.statement (known v) (value v h)
 
+-- what is aligned
 abbrev pub subject : Evaluator → ℕ → List Name → Option Expression → Point → Result Value Fault
 subject v h = spec.subject (scope v) v.statement (known v) (value v h)
 
+-- ALIGN
 abbrev pub align_value : Evaluator → ℕ → List Name → Expression → Option Expression → Point → Result Value Fault
 align_value v h = spec.align_value (scope v) v.statement (known v) (value v h)
 
-abbrev pub script_symbol : Evaluator → ℕ → List Name → Name → Expression → Point → Point → Result Value Fault
-script_symbol v h = spec.script_symbol (scope v) v.statement (known v) (value v h)
+-- what a definition is worth, with its name on the path
+abbrev pub whole : Evaluator → ℕ → List Name → Name → Definition → Result Whole Fault
+whole v h path name = spec.whole (scope v) v.statement (known v) (value v h) path (name ∷ path) name
 
+-- a symbol by its definition
 abbrev pub symbol_by : Evaluator → ℕ → List Name → Name → Definition → Point → Result Value Fault
 symbol_by v h = spec.symbol_by (scope v) v.statement (known v) (value v h)
 
+-- a symbol by its name
 abbrev pub symbol : Evaluator → ℕ → List Name → Name → Point → Result Value Fault
 symbol v h = spec.symbol (scope v) v.statement (known v) (value v h)
 
+-- ASSERT
 abbrev pub assert_value : Evaluator → ℕ → List Name → Expression → Name → ℕ → Point → Result Value Fault
 assert_value v h = spec.assert_value (scope v) v.statement (known v) (value v h)
 
+-- a node of any kind
 abbrev pub node : Evaluator → ℕ → List Name → Expression → Point → Result Value Fault
 node v h path e p = spec.node (scope v) v.statement (known v) (value v h) path p (shape e)

@@ -1,11 +1,11 @@
 -- What a script and its table say of sections and symbols, and the symbols that are being evaluated.
-use Rattle.std.specs.Prelude.{ℕ, List, [], ◌∷◌, Option, Some, None, slice_get}
-use Rattle.std.specs.Option.{option_map, unwrap_or}
+use Rattle.std.specs.Prelude.{List, [], ◌∷◌, Option, Some, None, slice_get}
+use Rattle.std.specs.Option.{unwrap_or}
 use denote.Ref.{Bor}
 use Rattle.wild_numbering.specs.Numbering.{number_of}
-use Rattle.wild_eval.specs.declared.scope.Definition.{Definition}
-use Rattle.wild_eval.specs.declared.scope.Definition.TheVariants as kept
-use Rattle.wild_eval.specs.declared.scope.SymbolEntry.{SymbolEntry}
+use Rattle.wild_eval.specs.declared.definition.Definition.{Definition}
+use Rattle.wild_eval.specs.declared.definition.Definition.TheVariants as kept
+use Rattle.wild_eval.specs.declared.definition.SymbolEntry.{SymbolEntry}
 use Rattle.wild_eval.specs.declared.scope.Scope.{Scope}
 use Rattle.wild_eval.specs.declared.scope.Path.{Path}
 use Rattle.wild_eval.specs.declared.scope.Path.TheVariants.{Start, Through'}
@@ -17,13 +17,10 @@ abbrev pub shown_definition : Definition → meaning.Definition
 shown_definition (kept.OfRow row offset s) = OfRow row offset s
 shown_definition (kept.OfScript value point) = OfScript value.now point
 
--- the definition of the entry at an index
-abbrev pub entry_at : ℕ → List SymbolEntry → Option meaning.Definition
-entry_at i entries = option_map (λ e. shown_definition e.definition) (slice_get entries i)
-
-abbrev pub defined_at : Option ℕ → List SymbolEntry → Option meaning.Definition
-defined_at None entries = None
-defined_at (Some i) entries = entry_at i entries
+-- the definitions of entries
+abbrev pub shown_definitions : List SymbolEntry → List meaning.Definition
+shown_definitions [] = []
+shown_definitions (e ∷ es) = shown_definition e.definition ∷ shown_definitions es
 
 -- the name, or the empty one where there is none
 abbrev pub or_empty : Option (Bor Name) → Name
@@ -36,7 +33,8 @@ scope_of scope = record {
   section_name = λ s. or_empty (slice_get scope.sections.now s);
   «section» = λ x. number_of x scope.section_numbers.now;
   alignment = λ s. unwrap_or (slice_get scope.alignments.now s) 0;
-  definition = λ x. defined_at (number_of x scope.symbols.now) scope.entries.now;
+  symbol = λ x. number_of x scope.symbols.now;
+  definitions = shown_definitions scope.entries.now;
   line = λ i. line_of scope.script.now i;
 }
 

@@ -2,7 +2,7 @@
 
 ghost use Rattle.std.specs.Prelude.{◌≡◌, ◌==◌, ℕ, Some, None, OnOk, if◌then◌else◌};
 ghost use Rattle.std.specs.Option.{unwrap_or};
-ghost use Rattle.wild_value_spec.specs.Known.{Start, Load, End, Address, Dot, nothing, number_at, or_else, with_number};
+ghost use Rattle.wild_value_spec.specs.Known.{Start, Load, End, Address, Dot, LoadDot, nothing, number_at, or_else, with_number};
 ghost use Rattle.wild_eval.specs.Addresses.{known_at, known_of};
 
 use std::alloc::{AllocError, Global};
@@ -22,6 +22,8 @@ pub struct Addresses {
     pub rows: Numbers,
     /// The location counter at each place.
     pub dots: Numbers,
+    /// The start of the section that a place opens, as its load address reads it.
+    pub load_dots: Numbers,
 }
 
 fn number(known: &Numbers, index: usize) -> Option<u64>
@@ -58,6 +60,7 @@ impl Addresses {
             ends: BTreeMap::new(alloc),
             rows: BTreeMap::new(alloc),
             dots: BTreeMap::new(alloc),
+            load_dots: BTreeMap::new(alloc),
         }
     }
 
@@ -96,6 +99,13 @@ impl Addresses {
         learn(&mut self.dots, place, number)
     }
 
+    /// Keeps the start of the section that a place opens, unless it is known.
+    pub fn learn_load_dot(&mut self, place: usize, number: u64) -> Result<(), AllocError>
+        ensures { OnOk result (known_of self.new ≡ with_number (LoadDot place) number (known_of self.old)) }
+    {
+        learn(&mut self.load_dots, place, number)
+    }
+
     /// Where a section starts, where that is known.
     pub(crate) fn known_start(&self, section: usize) -> Option<u64>
         ensures { result ≡ known_of self.now (Start section) }
@@ -129,6 +139,13 @@ impl Addresses {
         ensures { result ≡ known_of self.now (Dot place) }
     {
         number(&self.dots, place)
+    }
+
+    /// The start of the section that a place opens, where it is known.
+    pub(crate) fn known_load_dot(&self, place: usize) -> Option<u64>
+        ensures { result ≡ known_of self.now (LoadDot place) }
+    {
+        number(&self.load_dots, place)
     }
 
     /// Where a section starts, or 0 where that is not known.

@@ -1,11 +1,13 @@
 //! What is known of a layout, and the faults of what is not.
 
-ghost use Rattle.std.specs.Prelude.{Ok};
+ghost use Rattle.std.specs.Prelude.{Ok, codes};
+ghost use Rattle.wild_names.specs.declared.fault.Fault.TheVariants as fault;
 ghost use Rattle.wild_eval.specs.Plain as spec;
-ghost use Rattle.wild_value_spec.specs.Answer.{Returns};
+ghost use Rattle.wild_value_spec.specs.Answer.{Gives, Returns, or_fault};
 
 use crate::plain::Evaluator;
 use wild_base::{Fault, Name};
+use wild_value_spec::{DotSource, Point};
 
 impl Evaluator<'_> {
     fn section_name(&self, section: usize) -> Result<Name, Fault>
@@ -21,22 +23,9 @@ impl Evaluator<'_> {
         Ok(name.copy(self.alloc)?)
     }
 
-    #[tactic(auto, unfolding(wild_value_spec::specs::Value::dot_of))]
-    pub(crate) fn dot(&self, place: usize) -> Result<u64, Fault>
-        ensures { Returns result (spec.dot_of self.now place) }
-    {
-        match self.addresses.known_dot(place) {
-            Some(dot) => Ok(dot),
-            None => Err(Fault::NotLaidOut {
-                statement: self.statement,
-                name: Name::new(self.alloc, b".")?,
-            }),
-        }
-    }
-
     #[tactic(auto, unfolding(wild_value_spec::specs::Value::start_of))]
     pub(crate) fn start(&self, section: usize) -> Result<u64, Fault>
-        ensures { Returns result (spec.start_of self.now section) }
+        ensures { Gives result (spec.start_of self.now section) }
     {
         match self.addresses.known_start(section) {
             Some(number) => Ok(number),
@@ -49,7 +38,7 @@ impl Evaluator<'_> {
 
     #[tactic(auto, unfolding(wild_value_spec::specs::Value::load_of))]
     pub(crate) fn load(&self, section: usize) -> Result<u64, Fault>
-        ensures { Returns result (spec.load_of self.now section) }
+        ensures { Gives result (spec.load_of self.now section) }
     {
         match self.addresses.known_load(section) {
             Some(number) => Ok(number),
@@ -62,7 +51,7 @@ impl Evaluator<'_> {
 
     #[tactic(auto, unfolding(wild_value_spec::specs::Value::end_of))]
     pub(crate) fn end(&self, section: usize) -> Result<u64, Fault>
-        ensures { Returns result (spec.end_of self.now section) }
+        ensures { Gives result (spec.end_of self.now section) }
     {
         match self.addresses.known_end(section) {
             Some(number) => Ok(number),
@@ -76,7 +65,7 @@ impl Evaluator<'_> {
     // The address of the row of a symbol.
     #[tactic(auto, unfolding(wild_value_spec::specs::Value::row_of))]
     pub(crate) fn address(&self, name: &Name, row: usize) -> Result<u64, Fault>
-        ensures { Returns result (spec.row_of self.now name.now row) }
+        ensures { Gives result (spec.row_of self.now name.now row) }
     {
         match self.addresses.known_address(row) {
             Some(address) => Ok(address),
@@ -84,6 +73,32 @@ impl Evaluator<'_> {
                 statement: self.statement,
                 name: self.copied(name)?,
             }),
+        }
+    }
+
+    // A location counter, where it is known.
+    fn counted(&self, known: Option<u64>) -> Result<u64, Fault>
+        ensures { Gives result (or_fault known (fault.NotLaidOut self.now.statement (codes "."))) }
+    {
+        match known {
+            Some(dot) => Ok(dot),
+            None => Err(Fault::NotLaidOut {
+                statement: self.statement,
+                name: Name::new(self.alloc, b".")?,
+            }),
+        }
+    }
+
+    // `.` of a point.
+    #[tactic(auto, unfolding(wild_value_spec::specs::Value::dot_of))]
+    pub(crate) fn dot(&self, point: Point) -> Result<u64, Fault>
+        ensures { Gives result (spec.dot_of self.now point) }
+    {
+        match point.dot {
+            DotSource::OfPlace => self.counted(self.addresses.known_dot(point.place)),
+            DotSource::OfLoad => self.counted(self.addresses.known_load_dot(point.place)),
+            DotSource::Zero => Ok(0),
+            DotSource::OfEnd(section) => self.end(section),
         }
     }
 }

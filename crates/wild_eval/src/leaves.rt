@@ -2,7 +2,7 @@
 
 ghost use Rattle.std.specs.Prelude.{◌≡◌, ◌<◌, ◌≤◌, ◌+◌, max, IfOk};
 ghost use Rattle.wild_eval.specs.Plain as spec;
-ghost use Rattle.wild_value_spec.specs.Answer.{Returns};
+ghost use Rattle.wild_value_spec.specs.Answer.{Gives};
 ghost use Rattle.wild_value_spec.specs.Marks.{max_height};
 ghost use Rattle.wild_value_spec.specs.Value.{multiple_from, multiple_value, sum_of};
 
@@ -11,12 +11,12 @@ use crate::marks::{absolutely, bare, over_both, relatively, unmarked_over};
 use crate::plain::Evaluator;
 use wild_base::Fault;
 use wild_expression_tree::Comparison;
-use wild_value_spec::{Point, Value};
+use wild_value_spec::{Point, Value, Whole};
 
 impl Evaluator<'_> {
     #[tactic(auto, unfolding(wild_value_spec::specs::Value::sum_of))]
     pub(crate) fn sum(&self, left: u64, right: u64) -> Result<u64, Fault>
-        ensures { Returns result (sum_of left right) }
+        ensures { Gives result (sum_of left right) }
     {
         match left.checked_add(right) {
             Some(sum) => Ok(sum),
@@ -27,7 +27,7 @@ impl Evaluator<'_> {
     #[tactic(auto, unfolding(wild_value_spec::specs::Value::multiple_from))]
     fn multiple_from(&self, value: u64, align: u64) -> Result<u64, Fault>
         requires { 0 < align }
-        ensures { Returns result (multiple_from value align) }
+        ensures { Gives result (multiple_from value align) }
     {
         match value.checked_next_multiple_of(align) {
             Some(multiple) => Ok(multiple),
@@ -37,7 +37,7 @@ impl Evaluator<'_> {
 
     #[tactic(auto, unfolding(wild_value_spec::specs::Value::full_number))]
     pub(crate) fn full_number(&self, point: Point, value: Value) -> Result<u64, Fault>
-        ensures { Returns result (spec.full_number self.now point value) }
+        ensures { Gives result (spec.full_number self.now point value) }
     {
         match point.section {
             None => Ok(value.number),
@@ -52,12 +52,25 @@ impl Evaluator<'_> {
         }
     }
 
+    // The number that a value stands for, and its height.
+    #[tactic(auto, unfolding(wild_value_spec::specs::Value::value_whole))]
+    pub(crate) fn value_whole(&self, point: Point, value: Value) -> Result<Whole, Fault>
+        ensures value { Gives result (spec.value_whole self.now point value) }
+        ensures height { IfOk result (λ w. w.height ≡ value.height) }
+    {
+        let number = self.full_number(point, value)?;
+        Ok(Whole {
+            number,
+            height: value.height,
+        })
+    }
+
     #[tactic(auto, unfolding(wild_value_spec::specs::Value::counter))]
     pub(crate) fn counter(&self, point: Point) -> Result<Value, Fault>
-        ensures value { Returns result (spec.counter self.now point) }
+        ensures value { Gives result (spec.counter self.now point) }
         ensures height { IfOk result (λ v. v.height ≤ 1) }
     {
-        let dot = self.dot(point.place)?;
+        let dot = self.dot(point)?;
         match point.section {
             None => Ok(absolutely(dot)),
             Some(section) => {
@@ -69,7 +82,7 @@ impl Evaluator<'_> {
 
     #[tactic(auto, unfolding(wild_value_spec::specs::Value::counter_number))]
     pub(crate) fn counter_number(&self, point: Point) -> Result<Value, Fault>
-        ensures value { Returns result (spec.counter_number self.now point) }
+        ensures value { Gives result (spec.counter_number self.now point) }
         ensures height { IfOk result (λ v. v.height ≡ 0) }
     {
         let counter = self.counter(point)?;
@@ -88,7 +101,7 @@ impl Evaluator<'_> {
     ) -> Result<Value, Fault>
         requires left_height { x.height < max_height }
         requires right_height { y.height < max_height }
-        ensures value { Returns result (spec.judgement self.now comparison point first x y) }
+        ensures value { Gives result (spec.judgement self.now comparison point first x y) }
         ensures height { IfOk result (λ v. v.height ≡ max x.height y.height + 1) }
     {
         let second = self.full_number(point, y)?;
@@ -101,7 +114,7 @@ impl Evaluator<'_> {
         requires nonzero { 0 < align.number }
         requires align_height { align.height < max_height }
         requires value_height { x.height < max_height }
-        ensures value { Returns result (multiple_value align x) }
+        ensures value { Gives result (multiple_value align x) }
         ensures height { IfOk result (λ v. v.height ≡ max align.height x.height + 1) }
     {
         let number = self.multiple_from(x.number, align.number)?;

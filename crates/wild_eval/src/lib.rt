@@ -4,6 +4,7 @@
 mod addresses;
 mod arithmetic;
 mod constant;
+mod definition;
 mod known;
 mod leaves;
 mod marks;
@@ -13,8 +14,9 @@ mod scope;
 
 pub use addresses::Addresses;
 pub use constant::evaluate_const;
+pub use definition::{Definition, SymbolEntry};
 pub use plain::Evaluator;
-pub use scope::{Definition, Path, Scope, SymbolEntry};
+pub use scope::{Path, Scope};
 pub use wild_value_spec::ConstFault;
 
 #[cfg(test)]

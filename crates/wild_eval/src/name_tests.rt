@@ -6,17 +6,19 @@ use wild_base::alignment::USIZE;
 use wild_base::{Fault, Name, NoMemory};
 use wild_expression_tree::{AssertCommand, Expression};
 use wild_numbering::Numbering;
-use wild_value_spec::Point;
+use wild_value_spec::{DotSource, Point};
 
 type Tree = Boxed<Expression>;
 
 const OUTSIDE: Point = Point {
     place: 0,
+    dot: DotSource::Zero,
     section: None,
 };
 
 const INSIDE: Point = Point {
     place: 0,
+    dot: DotSource::OfPlace,
     section: Some(0),
 };
 

@@ -3,7 +3,7 @@
 ghost use Rattle.std.specs.Prelude.{◌≡◌, ◌<◌, ◌≤◌, ◌+◌, IfOk, Err, Some};
 ghost use Rattle.wild_names.specs.declared.fault.Fault.TheVariants as fault;
 ghost use Rattle.wild_eval.specs.Plain as spec;
-ghost use Rattle.wild_value_spec.specs.Answer.{Returns};
+ghost use Rattle.wild_value_spec.specs.Answer.{Gives};
 ghost use Rattle.wild_value_spec.specs.Marks.{max_height};
 
 use crate::arithmetic::truth;
@@ -11,13 +11,13 @@ use crate::marks::{absolutely, absolutely_over, relatively_over, unmarked};
 use crate::plain::Evaluator;
 use wild_base::{Fault, Name};
 use wild_expression_tree::{AssertCommand, Question};
-use wild_value_spec::{Point, Value};
+use wild_value_spec::{Point, Value, Whole};
 
 impl Evaluator<'_> {
     // End minus start, the end first.
     #[tactic(auto, unfolding(wild_value_spec::specs::Value::extent))]
     fn extent(&self, section: usize) -> Result<Value, Fault>
-        ensures value { Returns result (spec.extent self.now section) }
+        ensures value { Gives result (spec.extent self.now section) }
         ensures height { IfOk result (λ v. v.height ≤ 1) }
     {
         let end = self.end(section)?;
@@ -27,7 +27,7 @@ impl Evaluator<'_> {
 
     #[tactic(auto, unfolding(wild_value_spec::specs::Value::size))]
     fn size(&self, name: &Name) -> Result<Value, Fault>
-        ensures value { Returns result (spec.size self.now name.now) }
+        ensures value { Gives result (spec.size self.now name.now) }
         ensures height { IfOk result (λ v. v.height ≤ 1) }
     {
         match self.scope.section(name) {
@@ -48,7 +48,7 @@ impl Evaluator<'_> {
     }
 
     fn unknown_section(&self, name: &Name) -> Result<Value, Fault>
-        ensures value { Returns result (Err (fault.UnknownSection name.now)) }
+        ensures value { Gives result (Err (fault.UnknownSection name.now)) }
         ensures height { IfOk result (λ v. v.height ≤ 1) }
     {
         Err(Fault::UnknownSection {
@@ -58,7 +58,7 @@ impl Evaluator<'_> {
 
     #[tactic(auto, unfolding(wild_value_spec::specs::Value::start_named))]
     fn start_named(&self, name: &Name) -> Result<Value, Fault>
-        ensures value { Returns result (spec.start_named self.now name.now) }
+        ensures value { Gives result (spec.start_named self.now name.now) }
         ensures height { IfOk result (λ v. v.height ≤ 1) }
     {
         match self.scope.section(name) {
@@ -69,7 +69,7 @@ impl Evaluator<'_> {
 
     #[tactic(auto, unfolding(wild_value_spec::specs::Value::load_named))]
     fn load_named(&self, name: &Name) -> Result<Value, Fault>
-        ensures value { Returns result (spec.load_named self.now name.now) }
+        ensures value { Gives result (spec.load_named self.now name.now) }
         ensures height { IfOk result (λ v. v.height ≤ 1) }
     {
         match self.scope.section(name) {
@@ -97,7 +97,7 @@ impl Evaluator<'_> {
 
     // What is asked of a name.
     pub(crate) fn named_value(&self, question: Question, name: &Name) -> Result<Value, Fault>
-        ensures value { Returns result (spec.named_value self.now question name.now) }
+        ensures value { Gives result (spec.named_value self.now question name.now) }
         ensures height { IfOk result (λ v. v.height ≤ 1) }
     {
         match question {
@@ -110,89 +110,72 @@ impl Evaluator<'_> {
         }
     }
 
-    // An address counted from the start of its section.
+    // What a symbol is worth, counted from the start of its section.
     #[tactic(auto, unfolding(wild_value_spec::specs::Value::from_start))]
-    fn from_start(
-        &self,
-        name: &Name,
-        address: u64,
-        height: usize,
-        start: u64,
-    ) -> Result<Value, Fault>
-        requires { height < max_height }
-        ensures value { Returns result (spec.from_start self.now name.now address height start) }
-        ensures height { IfOk result (λ v. v.height ≡ height + 1) }
+    fn from_start(&self, name: &Name, whole: Whole, start: u64) -> Result<Value, Fault>
+        requires { whole.height < max_height }
+        ensures value { Gives result (spec.from_start self.now name.now whole start) }
+        ensures height { IfOk result (λ v. v.height ≡ whole.height + 1) }
     {
-        if address < start {
+        if whole.number < start {
             return Err(Fault::BeforeSection {
                 name: self.copied(name)?,
             });
         }
-        Ok(relatively_over(address - start, height))
+        Ok(relatively_over(whole.number - start, whole.height))
     }
 
-    // The address of a symbol of a section, as it is read in one.
+    // What a symbol of a section is worth, as it is read in one.
     fn symbol_value_in(
         &self,
         name: &Name,
-        address: u64,
-        height: usize,
+        whole: Whole,
         section: usize,
         other: usize,
     ) -> Result<Value, Fault>
-        requires { height < max_height }
-        ensures value { Returns result (spec.symbol_value_in self.now name.now address height (Some section) (Some other)) }
-        ensures height { IfOk result (λ v. v.height ≡ height + 1) }
+        requires { whole.height < max_height }
+        ensures value { Gives result (spec.symbol_value_in self.now name.now whole (Some section) (Some other)) }
+        ensures height { IfOk result (λ v. v.height ≡ whole.height + 1) }
     {
         if section != other {
-            return Ok(absolutely_over(address, height));
+            return Ok(absolutely_over(whole.number, whole.height));
         }
         let start = self.start(section)?;
-        self.from_start(name, address, height, start)
+        self.from_start(name, whole, start)
     }
 
-    // The address of a symbol of that section, as it is read at a point.
+    // What a symbol of that section is worth, as it is read at a point.
     #[tactic(auto, unfolding(wild_value_spec::specs::Value::symbol_value))]
     pub(crate) fn symbol_value(
         &self,
         name: &Name,
         section: Option<usize>,
         point: Point,
-        address: u64,
-        height: usize,
+        whole: Whole,
     ) -> Result<Value, Fault>
-        requires { height < max_height }
-        ensures value { Returns result (spec.symbol_value self.now name.now section point address height) }
-        ensures height { IfOk result (λ v. v.height ≡ height + 1) }
+        requires { whole.height < max_height }
+        ensures value { Gives result (spec.symbol_value self.now name.now section point whole) }
+        ensures height { IfOk result (λ v. v.height ≡ whole.height + 1) }
     {
         match (section, point.section) {
-            (Some(section), Some(other)) => self.symbol_value_in(
-                name, address, height, section, other,
-            ),
-            _ => Ok(absolutely_over(address, height)),
+            (Some(section), Some(other)) => self.symbol_value_in(name, whole, section, other),
+            _ => Ok(absolutely_over(whole.number, whole.height)),
         }
     }
 
-    // A symbol of the table: so far after the start of its row.
-    #[tactic(auto, unfolding(wild_value_spec::specs::Value::table_symbol))]
-    pub(crate) fn table_symbol(
-        &self,
-        name: &Name,
-        row: usize,
-        offset: u64,
-        section: usize,
-        point: Point,
-    ) -> Result<Value, Fault>
-        ensures value { Returns result (spec.table_symbol self.now name.now row offset section point) }
-        ensures height { IfOk result (λ v. v.height ≤ 1) }
+    // What a symbol of the table is worth: so far after the start of its row.
+    #[tactic(auto, unfolding(wild_value_spec::specs::Value::row_whole))]
+    pub(crate) fn row_whole(&self, name: &Name, row: usize, offset: u64) -> Result<Whole, Fault>
+        ensures value { Gives result (spec.row_whole self.now name.now row offset) }
+        ensures height { IfOk result (λ w. w.height ≡ 0) }
     {
         let start = self.address(name, row)?;
-        let address = self.sum(start, offset)?;
-        self.symbol_value(name, Some(section), point, address, 0)
+        let number = self.sum(start, offset)?;
+        Ok(Whole { number, height: 0 })
     }
 
     pub(crate) fn unknown_symbol(&self, name: &Name) -> Result<Value, Fault>
-        ensures value { Returns result (Err (fault.UnknownSymbol name.now)) }
+        ensures value { Gives result (Err (fault.UnknownSymbol name.now)) }
         ensures height { IfOk result (λ v. v.height ≤ 1) }
     {
         Err(Fault::UnknownSymbol {
@@ -201,7 +184,7 @@ impl Evaluator<'_> {
     }
 
     pub(crate) fn symbol_cycle(&self, name: &Name) -> Result<Value, Fault>
-        ensures value { Returns result (Err (fault.SymbolCycle name.now)) }
+        ensures value { Gives result (Err (fault.SymbolCycle name.now)) }
         ensures height { IfOk result (λ v. v.height ≤ 1) }
     {
         Err(Fault::SymbolCycle {
@@ -210,7 +193,7 @@ impl Evaluator<'_> {
     }
 
     pub(crate) fn failed(&self, command: &AssertCommand) -> Result<Value, Fault>
-        ensures value { Returns result (Err (fault.AssertFailed ((spec.scope self.now).line command.now.at) command.now.message)) }
+        ensures value { Gives result (Err (fault.AssertFailed ((spec.scope self.now).line command.now.at) command.now.message)) }
         ensures height { IfOk result (λ v. v.height ≤ 1) }
     {
         Err(Fault::AssertFailed {

@@ -5,20 +5,22 @@ ghost use Rattle.wild_eval.specs.Plain as spec;
 ghost use Rattle.wild_eval.specs.Scope.{path_of, scope_of, shown_definition};
 ghost use Rattle.wild_eval.specs.Addresses.{known_of};
 ghost use Rattle.wild_expression_tree.specs.Shape.{seen_held};
-ghost use Rattle.wild_value_spec.specs.Answer.{Returns};
+ghost use Rattle.wild_value_spec.specs.Answer.{Gives};
 ghost use Rattle.wild_value_spec.specs.Marks.{max_height};
+ghost use Rattle.wild_value_spec.specs.Scope.{OfScript};
 ghost use Rattle.wild_value_spec.specs.Value as value;
 
 use crate::addresses::Addresses;
 use crate::arithmetic::{apply, change, decides, divide, truth_of};
+use crate::definition::Definition;
 use crate::marks::{over, over_both, unmarked};
-use crate::scope::{Definition, Path, Scope};
+use crate::scope::{Path, Scope};
 use std::alloc::Global;
 use wild_base::{Fault, Name};
 use wild_expression_tree::{
     Arithmetic, AssertCommand, Comparison, Connective, Division, Expression, Shape, Unary,
 };
-use wild_value_spec::{Point, Value};
+use wild_value_spec::{Point, Value, Whole};
 
 /// The largest height of a value.
 const MAX_HEIGHT: usize = 1024;
@@ -53,7 +55,7 @@ impl Evaluator<'_> {
     /// The number that an expression stands for at a point.
     #[tactic(auto, unfolding(wild_value_spec::specs::Value::full))]
     pub fn full(&self, path: &Path<'_>, expression: &Expression, point: Point) -> Result<u64, Fault>
-        ensures { Returns result (value.full_value (scope_of self.now.scope.now) self.now.statement (known_of self.now.addresses.now) (path_of path.now) expression.now point) }
+        ensures { Gives result (value.full_value (scope_of self.now.scope.now) self.now.statement (known_of self.now.addresses.now) (path_of path.now) expression.now point) }
     {
         let value = self.value(MAX_HEIGHT, path, expression, point)?;
         self.full_number(point, value)
@@ -62,7 +64,7 @@ impl Evaluator<'_> {
     /// What an ASSERT statement is worth at a point. Fails where its condition is 0.
     #[tactic(auto, unfolding(wild_value_spec::specs::Value::assert_statement))]
     pub fn check(&self, command: &AssertCommand, point: Point) -> Result<Value, Fault>
-        ensures { Returns result (value.assert_statement (scope_of self.now.scope.now) self.now.statement (known_of self.now.addresses.now) command.now point) }
+        ensures { Gives result (value.assert_statement (scope_of self.now.scope.now) self.now.statement (known_of self.now.addresses.now) command.now point) }
     {
         self.assert_value(MAX_HEIGHT - 1, &Path::Start, command, point)
     }
@@ -78,7 +80,7 @@ impl Evaluator<'_> {
         point: Point,
     ) -> Result<Value, Fault>
         requires { levels ≤ max_height }
-        ensures value { Returns result (value.value (scope_of self.now.scope.now) self.now.statement (known_of self.now.addresses.now) levels (path_of path.now) expression.now point) }
+        ensures value { Gives result (value.value (scope_of self.now.scope.now) self.now.statement (known_of self.now.addresses.now) levels (path_of path.now) expression.now point) }
         ensures height { IfOk result (λ v. v.height ≤ levels) }
     {
         if levels == 0 {
@@ -98,7 +100,7 @@ impl Evaluator<'_> {
         point: Point,
     ) -> Result<Value, Fault>
         requires { levels < max_height }
-        ensures value { Returns result (spec.node self.now levels (path_of path.now) tree.now point) }
+        ensures value { Gives result (spec.node self.now levels (path_of path.now) tree.now point) }
         ensures height { IfOk result (λ v. v.height ≤ levels + 1) }
     {
         match tree.shape() {
@@ -131,7 +133,7 @@ impl Evaluator<'_> {
         point: Point,
     ) -> Result<Value, Fault>
         requires { levels < max_height }
-        ensures value { Returns result (spec.arithmetic_value self.now levels (path_of path.now) operator a.now b.now point) }
+        ensures value { Gives result (spec.arithmetic_value self.now levels (path_of path.now) operator a.now b.now point) }
         ensures height { IfOk result (λ v. v.height ≤ levels + 1) }
     {
         let x = self.value(levels, path, a, point)?;
@@ -152,7 +154,7 @@ impl Evaluator<'_> {
         point: Point,
     ) -> Result<Value, Fault>
         requires { levels < max_height }
-        ensures value { Returns result (spec.division_value self.now levels (path_of path.now) operator a.now b.now point) }
+        ensures value { Gives result (spec.division_value self.now levels (path_of path.now) operator a.now b.now point) }
         ensures height { IfOk result (λ v. v.height ≤ levels + 1) }
     {
         let y = self.value(levels, path, b, point)?;
@@ -176,7 +178,7 @@ impl Evaluator<'_> {
         point: Point,
     ) -> Result<Value, Fault>
         requires { levels < max_height }
-        ensures value { Returns result (spec.comparison_value self.now levels (path_of path.now) comparison a.now b.now point) }
+        ensures value { Gives result (spec.comparison_value self.now levels (path_of path.now) comparison a.now b.now point) }
         ensures height { IfOk result (λ v. v.height ≤ levels + 1) }
     {
         let x = self.value(levels, path, a, point)?;
@@ -198,7 +200,7 @@ impl Evaluator<'_> {
         point: Point,
     ) -> Result<Value, Fault>
         requires { levels < max_height }
-        ensures value { Returns result (spec.connective_value self.now levels (path_of path.now) operator a.now b.now point) }
+        ensures value { Gives result (spec.connective_value self.now levels (path_of path.now) operator a.now b.now point) }
         ensures height { IfOk result (λ v. v.height ≤ levels + 1) }
     {
         let x = self.value(levels, path, a, point)?;
@@ -221,7 +223,7 @@ impl Evaluator<'_> {
         point: Point,
     ) -> Result<Value, Fault>
         requires { levels < max_height }
-        ensures value { Returns result (spec.unary_value self.now levels (path_of path.now) operator a.now point) }
+        ensures value { Gives result (spec.unary_value self.now levels (path_of path.now) operator a.now point) }
         ensures height { IfOk result (λ v. v.height ≤ levels + 1) }
     {
         let x = self.value(levels, path, a, point)?;
@@ -241,7 +243,7 @@ impl Evaluator<'_> {
         point: Point,
     ) -> Result<Value, Fault>
         requires { levels < max_height }
-        ensures value { Returns result (spec.ternary_value self.now levels (path_of path.now) condition.now a.now b.now point) }
+        ensures value { Gives result (spec.ternary_value self.now levels (path_of path.now) condition.now a.now b.now point) }
         ensures height { IfOk result (λ v. v.height ≤ levels + 1) }
     {
         let x = self.value(levels, path, condition, point)?;
@@ -261,7 +263,7 @@ impl Evaluator<'_> {
         point: Point,
     ) -> Result<Value, Fault>
         requires { levels < max_height }
-        ensures value { Returns result (spec.align_value self.now levels (path_of path.now) alignment.now (seen_held held.entry) point) }
+        ensures value { Gives result (spec.align_value self.now levels (path_of path.now) alignment.now (seen_held held.entry) point) }
         ensures height { IfOk result (λ v. v.height ≤ levels + 1) }
     {
         let x = self.value(levels, path, alignment, point)?;
@@ -284,7 +286,7 @@ impl Evaluator<'_> {
         point: Point,
     ) -> Result<Value, Fault>
         requires { levels < max_height }
-        ensures value { Returns result (spec.subject self.now levels (path_of path.now) (seen_held held.entry) point) }
+        ensures value { Gives result (spec.subject self.now levels (path_of path.now) (seen_held held.entry) point) }
         ensures height { IfOk result (λ v. v.height ≤ levels) }
     {
         match held {
@@ -304,7 +306,7 @@ impl Evaluator<'_> {
         point: Point,
     ) -> Result<Value, Fault>
         requires { levels < max_height }
-        ensures value { Returns result (spec.symbol self.now levels (path_of path.now) name.now point) }
+        ensures value { Gives result (spec.symbol self.now levels (path_of path.now) name.now point) }
         ensures height { IfOk result (λ v. v.height ≤ levels + 1) }
     {
         match self.scope.definition(name) {
@@ -318,7 +320,9 @@ impl Evaluator<'_> {
         }
     }
 
+    // A symbol by its definition.
     #[cycle(evaluation)]
+    #[tactic(auto, unfolding(wild_value_spec::specs::Value::symbol_by))]
     fn symbol_by(
         &self,
         levels: usize,
@@ -328,41 +332,51 @@ impl Evaluator<'_> {
         point: Point,
     ) -> Result<Value, Fault>
         requires { levels < max_height }
-        ensures value { Returns result (spec.symbol_by self.now levels (path_of path.now) name.now (shown_definition definition.entry) point) }
+        ensures value { Gives result (spec.symbol_by self.now levels (path_of path.now) name.now (shown_definition definition.entry) point) }
         ensures height { IfOk result (λ v. v.height ≤ levels + 1) }
     {
+        let home = definition.home();
+        let whole = self.whole(levels, path, name, definition)?;
+        self.symbol_value(name, home, point, whole)
+    }
+
+    // What a definition is worth at its own point, with its name on the path.
+    #[cycle(evaluation)]
+    fn whole(
+        &self,
+        levels: usize,
+        path: &Path<'_>,
+        name: &Name,
+        definition: Definition<'_>,
+    ) -> Result<Whole, Fault>
+        requires { levels < max_height }
+        ensures value { Gives result (spec.whole self.now levels (path_of path.now) name.now (shown_definition definition.entry)) }
+        ensures height { IfOk result (λ w. w.height ≤ levels) }
+    {
         match definition {
-            Definition::OfRow {
-                row,
-                offset,
-                section,
-            } => self.table_symbol(name, row, offset, section, point),
-            Definition::OfScript { value, point: own } => {
-                self.script_symbol(levels, path, name, value, own, point)
+            Definition::OfRow { row, offset, .. } => self.row_whole(name, row, offset),
+            Definition::OfScript { value, point } => {
+                self.script_whole(levels, path, name, value, point)
             }
         }
     }
 
-    // The full value of an expression at its own point, with its symbol on the path.
     #[cycle(evaluation)]
-    #[tactic(auto, unfolding(wild_value_spec::specs::Value::script_symbol))]
-    fn script_symbol(
+    fn script_whole(
         &self,
         levels: usize,
         path: &Path<'_>,
         name: &Name,
         expression: &Expression,
-        own: Point,
         point: Point,
-    ) -> Result<Value, Fault>
+    ) -> Result<Whole, Fault>
         requires { levels < max_height }
-        ensures value { Returns result (spec.script_symbol self.now levels (path_of path.now) name.now expression.now own point) }
-        ensures height { IfOk result (λ v. v.height ≤ levels + 1) }
+        ensures value { Gives result (spec.whole self.now levels (path_of path.now) name.now (OfScript expression.now point)) }
+        ensures height { IfOk result (λ w. w.height ≤ levels) }
     {
         let longer = Path::Through(&*name, &*path);
-        let found = self.value(levels, &longer, expression, own)?;
-        let address = self.full_number(own, found)?;
-        self.symbol_value(name, own.section, point, address, found.height)
+        let value = self.value(levels, &longer, expression, point)?;
+        self.value_whole(point, value)
     }
 
     // A condition, which must not be 0.
@@ -376,7 +390,7 @@ impl Evaluator<'_> {
         point: Point,
     ) -> Result<Value, Fault>
         requires { levels < max_height }
-        ensures value { Returns result (spec.assert_value self.now levels (path_of path.now) command.now.expression command.now.message command.now.at point) }
+        ensures value { Gives result (spec.assert_value self.now levels (path_of path.now) command.now.expression command.now.message command.now.at point) }
         ensures height { IfOk result (λ v. v.height ≤ levels + 1) }
     {
         let condition = self.value(levels, path, command.expression.get(), point)?;

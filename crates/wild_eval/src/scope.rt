@@ -1,38 +1,14 @@
 //! What a script and its table say of sections and symbols, and the symbols that are being evaluated.
 
-ghost use Rattle.std.specs.Prelude.{◌≡◌};
+ghost use Rattle.std.specs.Prelude.{◌≡◌, slice_get};
 ghost use Rattle.std.specs.Option.{option_map};
-ghost use Rattle.wild_eval.specs.Scope.{entry_at, path_of, scope_of, shown_definition};
-ghost use Rattle.wild_value_spec.specs.Scope.{line_of};
+ghost use Rattle.wild_eval.specs.Scope.{path_of, scope_of, shown_definition, shown_definitions};
+ghost use Rattle.wild_value_spec.specs.Scope.{definition_of, line_of};
 ghost use Rattle.wild_value_spec.specs.Value.{is_on};
 
+use crate::definition::{Definition, SymbolEntry};
 use wild_base::{Alignment, Name};
-use wild_expression_tree::Expression;
 use wild_numbering::Numbering;
-use wild_value_spec::Point;
-
-/// What a symbol is.
-#[derive(Clone, Copy)]
-pub enum Definition<'a> {
-    /// So many bytes after the start of a row of a section.
-    OfRow {
-        row: usize,
-        offset: u64,
-        section: usize,
-    },
-    /// An expression at a point.
-    OfScript {
-        value: &'a Expression,
-        point: Point,
-    },
-}
-
-/// A symbol and its definition.
-#[derive(Clone, Copy)]
-pub struct SymbolEntry<'a> {
-    pub name: &'a Name,
-    pub definition: Definition<'a>,
-}
 
 /// What a script and its table say of sections and symbols. Sections are numbered from 0.
 #[derive(Clone, Copy)]
@@ -91,7 +67,7 @@ impl<'a> Scope<'a> {
 
     /// What the symbol of this name is, where there is one.
     pub fn definition(&self, name: &Name) -> Option<Definition<'a>>
-        ensures { option_map shown_definition result ≡ (scope_of self.now).definition name.now }
+        ensures { option_map shown_definition result ≡ definition_of (scope_of self.now) name.now }
     {
         match self.symbols.get(name) {
             Some(number) => self.definition_at(number),
@@ -99,8 +75,9 @@ impl<'a> Scope<'a> {
         }
     }
 
+    // The definition of a number.
     fn definition_at(&self, number: usize) -> Option<Definition<'a>>
-        ensures { option_map shown_definition result ≡ entry_at number self.now.entries.now }
+        ensures { option_map shown_definition result ≡ slice_get (shown_definitions self.now.entries.now) number }
     {
         match self.entries.get(number) {
             Some(entry) => Some(entry.definition),

@@ -2,10 +2,10 @@ use crate::{Addresses, ConstFault, Evaluator, Path, Scope, evaluate_const};
 use sqlite_items::Boxed;
 use std::alloc::Global;
 use std::test::Fail;
-use wild_base::{Alignment, Name, NoMemory};
+use wild_base::{Alignment, Fault, Name, NoMemory};
 use wild_expression_tree::Expression;
 use wild_numbering::Numbering;
-use wild_value_spec::Point;
+use wild_value_spec::{DotSource, Point};
 
 type Tree = Boxed<Expression>;
 
@@ -181,25 +181,42 @@ fn constants(rt: HostRuntime) -> Result<(), Fail> {
     Ok(())
 }
 
-// Section 0, `.a`, starts at 0x1000. The counter is 0x1003 at place 1 in it, and 0x2001 at place 2 outside.
+// Section 0, `.a`, is 0x1000 to 0x1020; of section 1, `.b`, nothing is known. The counter is 0x1003 at place 1 in `.a`, and
+// 0x2001 at place 2 outside, which opens a section at 0x2004.
 fn learn(alloc: Global) -> Result<Addresses, NoMemory> {
     let mut addresses = Addresses::new(alloc);
     addresses.learn_start(0, 0x1000)?;
+    addresses.learn_end(0, 0x1020)?;
     addresses.learn_dot(1, 0x1003)?;
     addresses.learn_dot(2, 0x2001)?;
+    addresses.learn_load_dot(2, 0x2004)?;
     Ok(addresses)
+}
+
+// `.` is not laid out.
+const NO_COUNTER: Result<u64, u32> = Err(100);
+
+// `.b` is not.
+const NO_SECTION: Result<u64, u32> = Err(101);
+
+fn number_of(fault: &Fault) -> u32 {
+    match fault {
+        Fault::NotLaidOut { name, .. } if name.bytes() == b".".as_slice() => 100,
+        Fault::NotLaidOut { name, .. } if name.bytes() == b".b".as_slice() => 101,
+        _ => fault.number(),
+    }
 }
 
 // What a statement reads at a place, or the number of its fault.
 fn read(alloc: Global, sample: Sample, point: Point) -> Result<Result<u64, u32>, NoMemory> {
     let tree = tree(alloc, sample)?;
     let addresses = learn(alloc)?;
-    let name = Name::new(alloc, b".a")?;
+    let (a, b) = (Name::new(alloc, b".a")?, Name::new(alloc, b".b")?);
     let numbers = Numbering::new(alloc);
     let scope = Scope {
-        sections: &[&name],
+        sections: &[&a, &b],
         section_numbers: &numbers,
-        alignments: &[Alignment::default()],
+        alignments: &[Alignment::default(), Alignment::default()],
         symbols: &numbers,
         entries: &[],
         script: b"",
@@ -212,7 +229,7 @@ fn read(alloc: Global, sample: Sample, point: Point) -> Result<Result<u64, u32>,
     };
     match evaluator.full(&Path::Start, tree.get(), point) {
         Ok(number) => Ok(Ok(number)),
-        Err(fault) => Ok(Err(fault.number())),
+        Err(fault) => Ok(Err(number_of(&fault))),
     }
 }
 
@@ -231,6 +248,7 @@ fn full_values_outside(rt: HostRuntime) -> Result<(), Fail> {
     ] {
         let point = Point {
             place: 2,
+            dot: DotSource::OfPlace,
             section: None,
         };
         assert_eq!(rt; read(rt.alloc(), sample, point)?, wanted, "{name}");
@@ -253,6 +271,7 @@ fn full_values_in_a_section(rt: HostRuntime) -> Result<(), Fail> {
     ] {
         let point = Point {
             place: 1,
+            dot: DotSource::OfPlace,
             section: Some(0),
         };
         assert_eq!(rt; read(rt.alloc(), sample, point)?, wanted, "{name}");
@@ -268,14 +287,14 @@ fn not_laid_out(rt: HostRuntime) -> Result<(), Fail> {
             Sample::Counter,
             3,
             Some(0),
-            Err(27),
+            NO_COUNTER,
         ),
         (
             "a section without a start",
             Sample::Five,
             1,
             Some(1),
-            Err(27),
+            NO_SECTION,
         ),
         (
             "the divisor comes first",
@@ -285,8 +304,41 @@ fn not_laid_out(rt: HostRuntime) -> Result<(), Fail> {
             Err(22),
         ),
     ] {
-        let point = Point { place, section };
+        let point = Point {
+            place,
+            dot: DotSource::OfPlace,
+            section,
+        };
         assert_eq!(rt; read(rt.alloc(), sample, point)?, wanted, "{name}");
+    }
+    Ok(())
+}
+
+#[test]
+fn sources_of_the_counter(rt: HostRuntime) -> Result<(), Fail> {
+    for (name, dot, place, wanted) in [
+        ("0, which asks nothing", DotSource::Zero, 3, Ok(0)),
+        (
+            "the start that a place opens",
+            DotSource::OfLoad,
+            2,
+            Ok(0x2004),
+        ),
+        ("a place that opens none", DotSource::OfLoad, 3, NO_COUNTER),
+        ("the end of a section", DotSource::OfEnd(0), 3, Ok(0x1020)),
+        (
+            "a section without an end",
+            DotSource::OfEnd(1),
+            3,
+            NO_SECTION,
+        ),
+    ] {
+        let point = Point {
+            place,
+            dot,
+            section: None,
+        };
+        assert_eq!(rt; read(rt.alloc(), Sample::Counter, point)?, wanted, "{name}");
     }
     Ok(())
 }

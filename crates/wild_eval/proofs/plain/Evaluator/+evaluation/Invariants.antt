@@ -37,8 +37,11 @@ decreases-symbol l = 8 * l.levels + 6
 abbrev pub decreases-symbol_by : goal.decreases-symbol_by
 decreases-symbol_by l = 8 * l.levels + 5
 
-abbrev pub decreases-script_symbol : goal.decreases-script_symbol
-decreases-script_symbol l = 8 * l.levels + 4
+abbrev pub decreases-whole : goal.decreases-whole
+decreases-whole l = 8 * l.levels + 4
+
+abbrev pub decreases-script_whole : goal.decreases-script_whole
+decreases-script_whole l = 8 * l.levels + 3
 
 abbrev pub decreases-assert_value : goal.decreases-assert_value
 decreases-assert_value l = 8 * l.levels + 6
