@@ -152,12 +152,21 @@ fn push_inner<'a>(
         }
         SectionCommand::SymbolAssignment(assignment) => push(
             places,
-            Place::Wait(Where::Between, Task::Assign(&assignment.name, &assignment.expr)),
+            Place::Wait(
+                Where::Between,
+                Task::Assign(&assignment.name, &assignment.expr),
+            ),
         ),
         SectionCommand::Provide(definition) => {
-            push(places, Place::Wait(Where::Between, Task::Provide(definition)))
+            push(
+                places,
+                Place::Wait(Where::Between, Task::Provide(definition)),
+            )
         }
-        SectionCommand::Assert(command) => push(places, Place::Wait(Where::Between, Task::Check(command))),
+        SectionCommand::Assert(command) => push(
+            places,
+            Place::Wait(Where::Between, Task::Check(command)),
+        ),
     }
 }
 
@@ -166,13 +175,25 @@ fn push_outer<'a>(places: &mut Items<Place<'a>>, command: &'a Command) -> Result
 {
     match command {
         Command::SymbolDefinition { name, value } => {
-            push(places, Place::Wait(Where::Outermost, Task::Assign(name, value)))
+            push(
+                places,
+                Place::Wait(Where::Outermost, Task::Assign(name, value)),
+            )
         }
         Command::SetLocation(location) => {
-            push(places, Place::Wait(Where::Outermost, Task::Locate(&location.address)))
+            push(
+                places,
+                Place::Wait(Where::Outermost, Task::Locate(&location.address)),
+            )
         }
-        Command::Provide(definition) => push(places, Place::Wait(Where::Outermost, Task::Provide(definition))),
-        Command::Assert(command) => push(places, Place::Wait(Where::Outermost, Task::Check(command))),
+        Command::Provide(definition) => push(
+            places,
+            Place::Wait(Where::Outermost, Task::Provide(definition)),
+        ),
+        Command::Assert(command) => push(
+            places,
+            Place::Wait(Where::Outermost, Task::Check(command)),
+        ),
         Command::Sections(_) => Ok(()),
     }
 }
