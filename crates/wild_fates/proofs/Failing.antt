@@ -1,10 +1,12 @@
 -- The first failure among checks that follow each other.
-use Rattle.std.proofs.Common.{◌≡◌, ◌∙◌, inl, inr, not, List, ◌++◌, refl, ap, Option, Some, None}
+use Rattle.std.proofs.Common.{◌≡◌, ◌∙◌, inl, inr, not, List, ◌++◌, refl, sym, ap, subst, Option, Some, None, Result}
 use Rattle.std.specs.Option.{option_map, option_or}
+use Rattle.std.specs.Result.{IsErrAnd}
 use Rattle.std.proofs.lemmas.List.Folds.{find-append}
+use Rattle.std.proofs.lemmas.Result.{err_from_is_err_and}
 use Rattle.wild_names.specs.declared.fault.Fault.{Fault}
 use Rattle.wild_plan_spec.specs.Checks.{Check, failing}
-use Rattle.wild_fates.specs.Passes.{IsWanted}
+use Rattle.wild_fates.specs.Passes.{IsWanted, Passes}
 
 failing_or : (first next : Option Check) → option_map (λ c. c.fault) (option_or first next) ≡ option_or (option_map (λ c. c.fault) first) (option_map (λ c. c.fault) next)
 failing_or None next = refl
@@ -33,3 +35,15 @@ wanted_after xs ys fault none (inr h) = inr (failing_after xs ys none ∙ h)
 
 pub none_after : (xs ys : List Check) → failing xs ≡ None → failing ys ≡ None → failing (xs ++ ys) ≡ None
 none_after xs ys a b = failing_after xs ys a ∙ b
+
+-- the same where these checks and the rest are what is left of all
+module _ (here rest all : List Check) (same : failing (here ++ rest) ≡ failing all) where
+  pub step_fails : (fault : Fault) → IsWanted (failing here) fault → IsWanted (failing all) fault
+  step_fails fault h = subst (λ (o : Option Fault). IsWanted o fault) same (wanted_before here rest fault h)
+
+  pub step_holds : failing here ≡ None → failing rest ≡ failing all
+  step_holds h = sym (failing_after here rest h) ∙ same
+
+-- where a function goes on by this error
+pub exits : {X : Type 0} {wanted : Option Fault} (fault : Fault) (result : Result X Fault) → IsErrAnd result (λ f. f ≡ fault) → IsWanted wanted fault → Passes wanted result
+exits fault result h w = let p = err_from_is_err_and result h in rw (p.1, p.2) (record { ok = tt; err = w })

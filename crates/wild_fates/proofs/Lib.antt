@@ -4,7 +4,6 @@ pub mod Shown
 pub mod Failing
 pub mod Numbered
 pub mod Patterns
-pub mod Steps
 pub mod Orphaned
 pub mod Orphans
 pub mod Parts

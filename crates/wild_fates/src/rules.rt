@@ -158,7 +158,7 @@ fn pattern_rule(
 }
 
 // The rules of a matcher after the others.
-#[tactic(auto, using(crate::proofs::Failing::failing_after, crate::proofs::Failing::failing_before))]
+#[tactic(auto, using(std::proofs::lemmas::Grind::common_steps, crate::proofs::Failing::failing_after))]
 fn push_patterns(
     alloc: Global,
     rules: &mut Items<SectionRule>,
@@ -245,7 +245,7 @@ impl NumberedRules {
         }
     }
 
-    #[tactic(auto, using(crate::proofs::Failing::failing_after, crate::proofs::Failing::failing_before))]
+    #[tactic(auto, using(std::proofs::lemmas::Grind::common_steps, crate::proofs::Failing::failing_after))]
     fn push_place(
         &mut self,
         alloc: Global,
@@ -265,7 +265,7 @@ impl NumberedRules {
     }
 }
 
-#[tactic(auto, using(crate::proofs::Failing::failing_after, crate::proofs::Failing::failing_before))]
+#[tactic(auto, using(std::proofs::lemmas::Grind::common_steps, crate::proofs::Failing::failing_after))]
 fn number_rules(alloc: Global, places: &[Place<'_>]) -> Result<NumberedRules, Fault>
     ensures rules { IfOk result (λ numbered. numbered.rules ≡ numbered_rules [] (shown_places places.now)) }
     ensures chunks { IfOk result (λ numbered. numbered.chunks ≡ chunks_in (shown_places places.now)) }

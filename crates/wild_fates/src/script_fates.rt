@@ -105,6 +105,7 @@ fn decide_by<'a>(
 ///
 /// First that of the first place that fails: a pattern without a reading, or an expression that is not built. Then that
 /// of the first section with the name of an earlier one. NoMemory may come at any point.
+#[tactic(auto, using(std::proofs::lemmas::Grind::common_steps, crate::proofs::Failing::none_after))]
 pub fn decide_fates<'a>(
     alloc: Global,
     script: &'a LinkerScript,
