@@ -3,15 +3,18 @@
 ghost use Rattle.std.specs.Prelude.{◌≡◌, ◌⊎◌, IfOk, IfErr};
 ghost use Rattle.wild_names.specs.declared.fault.Fault.TheVariants as fault;
 ghost use Rattle.wild_plan_spec.specs.Fit.{IsThePlan, IsTheFault, Fits, FaultIn};
+ghost use Rattle.wild_plan.specs.Basis.{IsBasis};
 ghost use Rattle.wild_plan.specs.Case.{shown_case};
+ghost use Rattle.wild_plan.specs.Checked.{IsChecked};
 ghost use Rattle.wild_plan.specs.Facts.{shown_all};
 ghost use Rattle.wild_plan.specs.Listed.{IsListed, shown_lists};
 ghost use Rattle.wild_plan.specs.Moves.{state_of};
 
 use crate::case::Case;
 use crate::check::check;
+use crate::definitions::Definitions;
 use crate::ends::End;
-use crate::ground::{Ground, find_basis, ground_on};
+use crate::ground::{Basis, Ground, find_basis, ground_on};
 use crate::listing::{placed_inputs, placed_sections, row_names};
 use crate::lists::{Lists, Plan};
 use crate::symbols::table_symbols;
@@ -45,15 +48,30 @@ pub fn plan(
     Ok(Plan::new(tree, lists))
 }
 
-/// The lists of the plan of a case: its checks and fates, the ground, the walk, the symbols and conditions, and what is
-/// then listed.
+/// The lists of the plan of a case: its checks and fates, what its rows say of sections and chunks, and then all that is
+/// found on them.
 fn script_lists(alloc: Global, case: &Case<'_>) -> Result<Lists, Fault>
     ensures fits { IfOk result (λ l. Fits (shown_case case.now) (shown_lists case.now.tree.now l)) }
     ensures refused { IfErr result (λ f. (f ≡ fault.NoMemory) ⊎ FaultIn (shown_case case.now) f) }
 {
     let definitions = check(alloc, case)?;
     let basis = find_basis(alloc, case, &definitions)?;
-    let ground = ground_on(alloc, case, &definitions, &basis);
+    lists_on(alloc, case, &definitions, &basis)
+}
+
+/// The lists of a case whose checks hold: the ground, the walk, the symbols and conditions, and what is then listed.
+fn lists_on(
+    alloc: Global,
+    case: &Case<'_>,
+    definitions: &Definitions<'_>,
+    basis: &Basis<'_>,
+) -> Result<Lists, Fault>
+    requires checked { IsChecked (shown_case case.now) definitions.now }
+    requires basis { IsBasis (shown_case case.now) basis.now }
+    ensures fits { IfOk result (λ l. Fits (shown_case case.now) (shown_lists case.now.tree.now l)) }
+    ensures refused { IfErr result (λ f. (f ≡ fault.NoMemory) ⊎ FaultIn (shown_case case.now) f) }
+{
+    let ground = ground_on(alloc, case, definitions, basis);
     let places = definitions.script_fates.places.as_slice();
     let walk = lay_out(&ground, places)?;
     let end = End {

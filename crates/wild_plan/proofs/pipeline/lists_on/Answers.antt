@@ -6,7 +6,7 @@ use Rattle.wild_plan.specs.Case.{shown_case}
 use Rattle.wild_plan.specs.Chunks.{rows_at}
 use Rattle.wild_plan.specs.Moves.{state_of}
 use Rattle.wild_plan.proofs.Composing.{walk_refused, end_refused, lists_fit}
-use Rattle.wild_plan.proofs.pipeline.script_lists.Goals as goal
+use Rattle.wild_plan.proofs.pipeline.lists_on.Goals as goal
 
 pub returns-in_err-walk-clause-refused : goal.returns-in_err-walk-clause-refused
 returns-in_err-walk-clause-refused c =
