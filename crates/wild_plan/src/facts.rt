@@ -3,7 +3,7 @@
 ghost use Rattle.std.specs.Prelude.{◌≡◌, ◌∷◌, ◌++◌, [], OnOk, IfOk, length};
 ghost use Rattle.wild_plan_spec.specs.Facts.{facts_from};
 ghost use Rattle.wild_fates.specs.Targets.{targets};
-ghost use Rattle.wild_plan.specs.Facts.{alignments_in, facts_by, facts_with, flags_by, shown_all, shown_facts};
+ghost use Rattle.wild_plan.specs.Facts.{alignments_in, facts_by, facts_with, flags_by, shown_all};
 ghost use Rattle.wild_plan.specs.Traits.{traits_at};
 
 use crate::traits::{SectionTraits, Traits, find_traits};
@@ -14,7 +14,7 @@ use wild_base::{Alignment, InputFlags, Name, NoMemory};
 use wild_plan_spec::{InputRow, Kept};
 
 /// What is said of a section.
-#[derive(Clone, Copy, Debug)]
+#[derive(Debug, Drop)]
 pub struct Facts<'a> {
     pub name: &'a Name,
     /// The largest alignment of its rows, or 1.
@@ -36,22 +36,20 @@ fn flags_by(traits: Traits) -> InputFlags
     flags
 }
 
-// Of a section with these traits.
-fn facts_by(name: &Name, traits: Traits) -> Facts<'_>
-    ensures { shown_facts result ≡ facts_by name.now traits }
+// A section with these traits after the others.
+#[tactic(auto, using(crate::proofs::Sections::all_append))]
+fn push_section<'a>(
+    facts: &mut Items<Facts<'a>>,
+    name: &'a Name,
+    traits: Traits,
+) -> Result<(), NoMemory>
+    ensures { OnOk result (shown_all facts.new ≡ shown_all facts.old ++ facts_by name.now traits ∷ []) }
 {
-    Facts {
+    facts.push(Facts {
         name,
         alignment: traits.alignment,
         flags: flags_by(traits),
-    }
-}
-
-#[tactic(auto, using(crate::proofs::Sections::all_append))]
-fn push<'a>(facts: &mut Items<Facts<'a>>, more: Facts<'a>) -> Result<(), NoMemory>
-    ensures { OnOk result (shown_all facts.new ≡ shown_all facts.old ++ shown_facts more.entry ∷ []) }
-{
-    facts.push(more)?;
+    })?;
     Ok(())
 }
 
@@ -65,7 +63,7 @@ fn facts_with<'a>(
 {
     let mut facts = Items::new(alloc);
     for (number, name) in names.iter().enumerate() {
-        push(&mut facts, facts_by(name, traits.get(number)))?;
+        push_section(&mut facts, name, traits.get(number))?;
     }
     Ok(facts)
 }
