@@ -145,36 +145,33 @@ fn push_inner<'a>(
 ) -> Result<(), NoMemory>
     ensures { OnOk result (shown_places places.new ≡ shown_places places.old ++ inner_places number command.now) }
 {
-    match command {
-        SectionCommand::Section(section) => push_any_section(places, number, section.get()),
+    let task = match command {
+        SectionCommand::Section(section) => {
+            return push_any_section(places, number, section.get());
+        }
         SectionCommand::SetLocation(location) => {
-            push(places, Place::SetLocation(&location.address))
+            return push(places, Place::SetLocation(&location.address));
         }
-        SectionCommand::SymbolAssignment(assignment) => push(
-            places,
-            Place::Wait(Where::Between, Task::Assign(&assignment.name, &assignment.expr)),
-        ),
-        SectionCommand::Provide(definition) => {
-            push(places, Place::Wait(Where::Between, Task::Provide(definition)))
+        SectionCommand::SymbolAssignment(assignment) => {
+            Task::Assign(&assignment.name, &assignment.expr)
         }
-        SectionCommand::Assert(command) => push(places, Place::Wait(Where::Between, Task::Check(command))),
-    }
+        SectionCommand::Provide(definition) => Task::Provide(definition),
+        SectionCommand::Assert(command) => Task::Check(command),
+    };
+    push(places, Place::Wait(Where::Between, task))
 }
 
 fn push_outer<'a>(places: &mut Items<Place<'a>>, command: &'a Command) -> Result<(), NoMemory>
     ensures { OnOk result (shown_places places.new ≡ shown_places places.old ++ outer_places command.now) }
 {
-    match command {
-        Command::SymbolDefinition { name, value } => {
-            push(places, Place::Wait(Where::Outermost, Task::Assign(name, value)))
-        }
-        Command::SetLocation(location) => {
-            push(places, Place::Wait(Where::Outermost, Task::Locate(&location.address)))
-        }
-        Command::Provide(definition) => push(places, Place::Wait(Where::Outermost, Task::Provide(definition))),
-        Command::Assert(command) => push(places, Place::Wait(Where::Outermost, Task::Check(command))),
-        Command::Sections(_) => Ok(()),
-    }
+    let task = match command {
+        Command::SymbolDefinition { name, value } => Task::Assign(name, value),
+        Command::SetLocation(location) => Task::Locate(&location.address),
+        Command::Provide(definition) => Task::Provide(definition),
+        Command::Assert(command) => Task::Check(command),
+        Command::Sections(_) => return Ok(()),
+    };
+    push(places, Place::Wait(Where::Outermost, task))
 }
 
 fn push_statement<'a>(

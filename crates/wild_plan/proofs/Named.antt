@@ -8,14 +8,15 @@ use Rattle.wild_value_spec.specs.Answer.{◌>>=◌}
 use Rattle.wild_value_spec.specs.Known.{Known}
 use Rattle.wild_value_spec.specs.Scope.{Name, Scope}
 use Rattle.wild_plan_spec.specs.declared.placed.PlacedSymbol.{PlacedSymbol}
-use Rattle.wild_plan_spec.specs.Places.{Place, Task, task_of}
-use Rattle.wild_plan_spec.specs.Symbols.{assignment_symbol, listed_symbol, task_symbol, symbols}
+use Rattle.wild_plan_spec.specs.declared.place.Where.{Where}
+use Rattle.wild_plan_spec.specs.Places.{Place}
+use Rattle.wild_plan_spec.specs.Symbols.{assignment_symbol, listed_symbol, place_symbol, symbols}
 use Rattle.wild_plan.specs.Found.{found_then}
 
 -- a name that is not empty is listed
-pub assigned_named : (scope : Scope) (known : Known) (i : ℕ) (name : Name) (e : Expression) → (name ≡ [] → ⊥) → assignment_symbol scope known i name e ≡ listed_symbol scope known i name e false
-assigned_named scope known i [] e h = absurd (h refl)
-assigned_named scope known i (b ∷ bs) e h = refl
+pub assigned_named : (scope : Scope) (known : Known) (i : ℕ) (w : Where) (name : Name) (e : Expression) → (name ≡ [] → ⊥) → assignment_symbol scope known i w name e ≡ listed_symbol scope known i w name e false
+assigned_named scope known i w [] e h = absurd (h refl)
+assigned_named scope known i w (b ∷ bs) e h = refl
 
 pub ruleset assigned_by_name = (assigned_named)
 
@@ -28,9 +29,8 @@ found_then_all (Ok rest) = refl
 found_then_all (Err f) = refl
 
 -- one place more
-pub symbols_more : (scope : Scope) (known : Known) (i : ℕ) (found : List PlacedSymbol) (p : Place) (ps : List Place) (task : Option Task) (s : Option PlacedSymbol) (next : List PlacedSymbol)
-    → task ≡ task_of p → task_symbol scope known i task ≡ Ok s → next ≡ found ++ option_to_list s → found_then next (symbols scope known (i + 1) ps) ≡ found_then found (symbols scope known i (p ∷ ps))
-symbols_more scope known i found p ps task s next a b c =
-    let there : task_symbol scope known i (task_of p) ≡ Ok s = ap (task_symbol scope known i) (sym a) ∙ b in
+pub symbols_more : (scope : Scope) (known : Known) (i : ℕ) (found : List PlacedSymbol) (p : Place) (ps : List Place) (s : Option PlacedSymbol) (next : List PlacedSymbol)
+    → place_symbol scope known i p ≡ Ok s → next ≡ found ++ option_to_list s → found_then next (symbols scope known (i + 1) ps) ≡ found_then found (symbols scope known i (p ∷ ps))
+symbols_more scope known i found p ps s next there c =
     let here : symbols scope known i (p ∷ ps) ≡ symbols scope known (i + 1) ps >>= (λ rest. Ok (option_to_list s ++ rest)) = rw there refl in
     ap (λ (xs : List PlacedSymbol). found_then xs (symbols scope known (i + 1) ps)) c ∙ found_then_more found (option_to_list s) (symbols scope known (i + 1) ps) ∙ ap (found_then found) (sym here)

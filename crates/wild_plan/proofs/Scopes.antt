@@ -1,65 +1,109 @@
--- Names of sections and symbols, as they are kept, say what a script and its table say.
-use Rattle.std.proofs.Common.{◌≡◌, ℕ, zero, suc, List, [], ◌∷◌, Option, Some, None, refl, ap, ◌∙◌}
+-- Sections, symbols and chunks, as they are kept, say what a script and its table say.
+use Rattle.std.proofs.Common.{◌≡◌, ℕ, zero, suc, ◌+◌, List, [], ◌∷◌, Option, refl, ap, sym, ◌∙◌}
 use Rattle.std.proofs.Math.Path.{fun_ext}
 use Rattle.std.specs.Prelude.{slice_get}
 use Rattle.std.specs.Option.{unwrap_or}
 use denote.Ref.{Bor}
 use Rattle.wild_numbering.specs.Numbering.{number_of}
 use Rattle.wild_script.specs.Tree.{Bytes}
-use Rattle.wild_script.specs.declared.tree.LinkerScript.{LinkerScript}
 use Rattle.wild_value_spec.specs.Scope.{Definition, Scope, line_of}
-use Rattle.wild_eval.specs.declared.scope.SymbolEntry.{SymbolEntry}
-use Rattle.wild_eval.specs.Scope as named
-use Rattle.wild_plan_spec.specs.declared.row.InputTable.{InputTable}
-use Rattle.wild_plan_spec.specs.Definitions as spec
-use Rattle.wild_plan_spec.specs.Names.{Name, or_empty}
-use Rattle.wild_plan_spec.specs.Orphans.{places_of}
-use Rattle.wild_plan_spec.specs.Fates.{section_names, fates_of}
-use Rattle.wild_plan_spec.specs.Scopes.{alignments_of, scope_of}
-use Rattle.wild_plan.specs.Entries.{shown_entries}
+use Rattle.wild_eval.specs.declared.definition.SymbolEntry.{SymbolEntry}
+use Rattle.wild_eval.specs.Scope as kept
 use Rattle.wild_fates.specs.Targets.{targets}
+use Rattle.wild_plan_spec.specs.declared.chunk.Chunk.{Chunk}
+use Rattle.wild_plan_spec.specs.declared.chunk.ChunkRow.{ChunkRow}
+use Rattle.wild_plan_spec.specs.declared.chunk.Kept.{Kept}
+use Rattle.wild_plan_spec.specs.declared.row.InputRow.{InputRow}
+use Rattle.wild_plan_spec.specs.Case.{Case}
+use Rattle.wild_plan_spec.specs.Definitions.{definitions_in, entry_names}
+use Rattle.wild_plan_spec.specs.Facts as spec
+use Rattle.wild_plan_spec.specs.Fates.{section_names, fates_of}
+use Rattle.wild_plan_spec.specs.Ground.{Ground, ground_of}
+use Rattle.wild_plan_spec.specs.Names.{Name, or_empty}
+use Rattle.wild_plan_spec.specs.Scopes.{entries_of, scope_of}
+use Rattle.wild_plan.specs.declared.facts.Facts.{Facts}
+use Rattle.wild_plan.specs.Entries.{shown_entries}
+use Rattle.wild_plan.specs.Facts.{alignments_in, shown_all, shown_or_none}
 
-name_same : (names : List (Bor Name)) (s : ℕ) → named.or_empty (slice_get names s) ≡ or_empty (slice_get (targets names) s)
+-- ---- sections
+
+name_same : (names : List (Bor Name)) (s : ℕ) → kept.or_empty (slice_get names s) ≡ or_empty (slice_get (targets names) s)
 name_same [] s = refl
 name_same (x ∷ xs) zero = refl
 name_same (x ∷ xs) (suc s) = name_same xs s
 
-entry_same : (es : List SymbolEntry) (i : ℕ) → named.entry_at i es ≡ spec.definition_at (slice_get (shown_entries es) i)
-entry_same [] i = refl
-entry_same (e ∷ es) zero = refl
-entry_same (e ∷ es) (suc i) = entry_same es i
+name_said : (rows : List InputRow) (fates : List (Option Kept)) (n : ℕ) (xs : List Name) (s : ℕ) → (spec.facts_at (spec.facts_from rows fates n xs) s).name ≡ or_empty (slice_get xs s)
+name_said rows fates n [] s = refl
+name_said rows fates n (x ∷ xs) zero = refl
+name_said rows fates n (x ∷ xs) (suc s) = name_said rows fates (n + 1) xs s
 
-defined_same : (o : Option ℕ) (es : List SymbolEntry) → named.defined_at o es ≡ spec.numbered_definition (shown_entries es) o
-defined_same None es = refl
-defined_same (Some i) es = entry_same es i
+alignment_said : (fs : List spec.Facts) (s : ℕ) → unwrap_or (slice_get (alignments_in fs) s) 0 ≡ (spec.facts_at fs s).alignment
+alignment_said [] s = refl
+alignment_said (f ∷ fs) zero = refl
+alignment_said (f ∷ fs) (suc s) = alignment_said fs s
 
-abbrev made : (ℕ → Name) → (Name → Option ℕ) → (ℕ → ℕ) → (Name → Option Definition) → (ℕ → ℕ) → Scope
-made n s a d l = record { section_name = n; «section» = s; alignment = a; definition = d; line = l }
+facts_shown : (fs : List Facts) (s : ℕ) → shown_or_none (slice_get fs s) ≡ spec.facts_at (shown_all fs) s
+facts_shown [] s = refl
+facts_shown (f ∷ fs) zero = refl
+facts_shown (f ∷ fs) (suc s) = facts_shown fs s
 
-made_same : {n m : ℕ → Name} {s r : Name → Option ℕ} {a b : ℕ → ℕ} {d e : Name → Option Definition} {k l : ℕ → ℕ} → n ≡ m → s ≡ r → a ≡ b → d ≡ e → k ≡ l → made n s a d k ≡ made m r b e l
-made_same p q r u v = rw (p, q, r, u, v) refl
+-- ---- symbols
 
-abbrev all_of : LinkerScript → InputTable → List spec.SymbolEntry
-all_of t inputs = spec.all_entries (fates_of t inputs) inputs.symbols (places_of t inputs)
+definitions_same : (es : List SymbolEntry) → kept.shown_definitions es ≡ definitions_in (shown_entries es)
+definitions_same [] = refl
+definitions_same (e ∷ es) = ap (λ ds. kept.shown_definition e.definition ∷ ds) (definitions_same es)
+
+-- ---- scopes
+
+abbrev scope_by : (ℕ → Name) → (Name → Option ℕ) → (ℕ → ℕ) → (Name → Option ℕ) → List Definition → (ℕ → ℕ) → Scope
+scope_by n s a d ds l = record { section_name = n; «section» = s; alignment = a; symbol = d; definitions = ds; line = l }
+
+scopes_same : {n m : ℕ → Name} {s r : Name → Option ℕ} {a b : ℕ → ℕ} {d e : Name → Option ℕ} {ds es : List Definition} {l : ℕ → ℕ} → n ≡ m → s ≡ r → a ≡ b → d ≡ e → ds ≡ es → scope_by n s a d ds l ≡ scope_by m r b e es l
+scopes_same p q r u v = rw (p, q, r, u, v) refl
 
 -- what is said by lists of names, alignments and entries as they are kept
-abbrev pub kept_scope : List (Bor Name) → List Name → List ℕ → List Name → List SymbolEntry → Bytes → Scope
-kept_scope sections numbers alignments symbols entries script = record {
-  section_name = λ s. named.or_empty (slice_get sections s);
-  «section» = λ x. number_of x numbers;
-  alignment = λ s. unwrap_or (slice_get alignments s) 0;
-  definition = λ x. named.defined_at (number_of x symbols) entries;
-  line = λ i. line_of script i;
-}
+abbrev kept_scope : List (Bor Name) → List Name → List ℕ → List Name → List SymbolEntry → Bytes → Scope
+kept_scope sections numbers alignments symbols entries script =
+    scope_by (λ s. kept.or_empty (slice_get sections s)) (λ x. number_of x numbers) (λ s. unwrap_or (slice_get alignments s) 0) (λ x. number_of x symbols) (kept.shown_definitions entries) (λ i. line_of script i)
 
-pub scopes_same : (sections : List (Bor Name)) (numbers : List Name) (alignments : List ℕ) (symbols : List Name) (entries : List SymbolEntry) (script : Bytes) (t : LinkerScript) (inputs : InputTable)
-    → targets sections ≡ section_names t inputs → numbers ≡ section_names t inputs → alignments ≡ alignments_of inputs.rows (fates_of t inputs) 0 (section_names t inputs)
-    → symbols ≡ spec.entry_names (all_of t inputs) → shown_entries entries ≡ all_of t inputs → kept_scope sections numbers alignments symbols entries script ≡ scope_of script t inputs
-scopes_same sections numbers alignments symbols entries script t inputs a b c d e = made_same
-    (fun_ext (λ s. name_same sections s) ∙ ap (λ (xs : List Name). λ (s : ℕ). or_empty (slice_get xs s)) a)
-    (ap (λ (xs : List Name). λ (x : Name). number_of x xs) b)
-    (ap (λ (xs : List ℕ). λ (s : ℕ). unwrap_or (slice_get xs s) 0) c)
-    (fun_ext (λ x. defined_same (number_of x symbols) entries)
-    ∙ ap (λ (xs : List Name). λ (x : Name). spec.numbered_definition (shown_entries entries) (number_of x xs)) d
-    ∙ ap (λ (es : List spec.SymbolEntry). λ (x : Name). spec.numbered_definition es (number_of x (spec.entry_names (all_of t inputs)))) e)
-    refl
+-- ---- the ground
+
+-- beside it the rows of each chunk, and what is said of each section
+abbrev pub kept_ground : Scope → (Chunk → List ChunkRow) → List Facts → Ground
+kept_ground scope order facts = record { scope = scope; rows = order; facts = λ s. shown_or_none (slice_get facts s) }
+
+module _ (c : Case) where
+  abbrev said : List spec.Facts
+  said = spec.facts_of c.tree c.inputs
+
+  names_said : (sections : List (Bor Name)) → targets sections ≡ section_names c.tree c.inputs → (s : ℕ) → kept.or_empty (slice_get sections s) ≡ (spec.facts_at said s).name
+  names_said sections a s =
+      name_same sections s
+      ∙ ap (λ (xs : List Name). or_empty (slice_get xs s)) a
+      ∙ sym (name_said c.inputs.rows (fates_of c.tree c.inputs) 0 (section_names c.tree c.inputs) s)
+
+  scope_said : (sections : List (Bor Name)) (numbers : List Name) (alignments : List ℕ) (symbols : List Name) (entries : List SymbolEntry)
+      → targets sections ≡ section_names c.tree c.inputs → numbers ≡ section_names c.tree c.inputs → alignments ≡ alignments_in said
+      → symbols ≡ entry_names (entries_of c) → shown_entries entries ≡ entries_of c → kept_scope sections numbers alignments symbols entries c.script ≡ scope_of c
+  scope_said sections numbers alignments symbols entries in_sections in_numbers in_alignments in_symbols in_entries = scopes_same
+      (fun_ext (λ s. names_said sections in_sections s))
+      (ap (λ (xs : List Name). λ (x : Name). number_of x xs) in_numbers)
+      (ap (λ (xs : List ℕ). λ (s : ℕ). unwrap_or (slice_get xs s) 0) in_alignments ∙ fun_ext (λ s. alignment_said said s))
+      (ap (λ (xs : List Name). λ (x : Name). number_of x xs) in_symbols)
+      (definitions_same entries ∙ ap definitions_in in_entries)
+
+  facts_said : (facts : List Facts) → shown_all facts ≡ said → (s : ℕ) → shown_or_none (slice_get facts s) ≡ spec.facts_at said s
+  facts_said facts a s = facts_shown facts s ∙ ap (λ (fs : List spec.Facts). spec.facts_at fs s) a
+
+  grounds_same : (scope : Scope) (order : Chunk → List ChunkRow) (facts : List Facts) → scope ≡ scope_of c → shown_all facts ≡ said → kept_ground scope order facts ≡ ground_of c order
+  grounds_same scope order facts a b =
+      let all : (λ (s : ℕ). shown_or_none (slice_get facts s)) ≡ (λ (s : ℕ). spec.facts_at said s) = fun_ext (λ s. facts_said facts b s) in
+      rw (a, all) refl
+
+  -- what is kept of a case is its ground
+  pub ground_said : (sections : List (Bor Name)) (numbers : List Name) (alignments : List ℕ) (symbols : List Name) (entries : List SymbolEntry) (order : Chunk → List ChunkRow) (facts : List Facts)
+      → targets sections ≡ section_names c.tree c.inputs → numbers ≡ section_names c.tree c.inputs → alignments ≡ alignments_in said
+      → symbols ≡ entry_names (entries_of c) → shown_entries entries ≡ entries_of c → shown_all facts ≡ said
+      → kept_ground (kept_scope sections numbers alignments symbols entries c.script) order facts ≡ ground_of c order
+  ground_said sections numbers alignments symbols entries order facts in_sections in_numbers in_alignments in_symbols in_entries in_facts =
+      grounds_same _ order facts (scope_said sections numbers alignments symbols entries in_sections in_numbers in_alignments in_symbols in_entries) in_facts

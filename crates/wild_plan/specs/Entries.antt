@@ -1,7 +1,7 @@
 -- Entries of symbols as they are kept, with their parts borrowed, and what they are.
 use Rattle.std.specs.Prelude.{List, [], ◌∷◌}
 use Rattle.wild_eval.specs.Scope.{shown_definition}
-use Rattle.wild_eval.specs.declared.scope.SymbolEntry.{SymbolEntry}
+use Rattle.wild_eval.specs.declared.definition.SymbolEntry.{SymbolEntry}
 use Rattle.wild_plan_spec.specs.Definitions as spec
 
 -- an entry, without that it is borrowed

@@ -1,10 +1,15 @@
+pub mod Case
 pub mod Entries
 pub mod Traits
+pub mod Facts
 pub mod Chunks
+pub mod Checked
+pub mod Basis
+pub mod Ground
 pub mod Moves
-pub mod Listed
+pub mod End
 pub mod Found
-pub mod Composed
+pub mod Listed
 pub use Rattle.wild_plan_spec.specs.Fit
 pub use Rattle.wild_plan_spec.specs.Layout
 pub use Rattle.wild_plan_spec.specs.Text

@@ -1,36 +1,24 @@
--- What is said and listed of sections whose traits are known.
-use Rattle.std.specs.Prelude.{ℕ, ◌+◌, ◌-◌, true, List, [], ◌∷◌, None, if◌then◌else◌}
-use Rattle.wild_names.specs.declared.input_flags.InputFlags.{InputFlags}
-use Rattle.wild_plan_spec.specs.declared.placed.PlacedSection.{PlacedSection}
-use Rattle.wild_value_spec.specs.Known.{Known, Start, Load, End, number_at}
-use Rattle.wild_plan_spec.specs.Names.{Name}
-use Rattle.wild_plan.specs.declared.traits.Traits.{Traits}
+-- What a plan lists, as it is kept, and what it is.
+use Rattle.std.specs.Prelude.{◌≡◌, List, ◌++◌, Option}
+use Rattle.wild_script.specs.declared.tree.LinkerScript.{LinkerScript}
+use Rattle.wild_plan_spec.specs.declared.chunk.Kept.{Kept}
+use Rattle.wild_plan_spec.specs.declared.placed.PlacedSymbol.{PlacedSymbol}
+use Rattle.wild_plan_spec.specs.declared.row.InputTable.{InputTable}
+use Rattle.wild_plan_spec.specs.Facts.{Facts}
+use Rattle.wild_plan_spec.specs.Layout.{Layout, placed_sections, placed_inputs, row_names}
+use Rattle.wild_plan_spec.specs.Steps.{State}
+use Rattle.wild_plan_spec.specs.Symbols.{table_symbols}
+use Rattle.wild_plan.specs.declared.lists.Lists.{Lists}
 
--- in memory, and writable or executable where some row is
-abbrev pub flags_by : Traits → InputFlags
-flags_by traits = record { 0 = 1 + (if traits.write then 2 else 0) + (if traits.exec then 4 else 0) }
+-- the plan of a script that has these lists
+abbrev pub shown_lists : LinkerScript → Lists → Layout
+shown_lists t l = record { script = t; sections = l.sections; placements = l.placements; locations = l.locations; symbols = l.symbols; names = l.names }
 
--- section s, with these traits
-abbrev pub section_by : Known → ℕ → Name → Traits → PlacedSection
-section_by known s x traits = record {
-  name = x;
-  start = number_at known (Start s);
-  load = number_at known (Load s);
-  size = number_at known (End s) - number_at known (Start s);
-  alignment = traits.alignment;
-  flags = flags_by traits;
-  fill = None;
-  region = None;
-  headers = [];
-  counted = true;
-}
-
--- the first section of the list has the number s; traits has the traits of each
-abbrev pub sections_by : Known → (ℕ → Traits) → ℕ → List Name → List PlacedSection
-sections_by known traits s [] = []
-sections_by known traits s (x ∷ xs) = section_by known s x (traits s) ∷ sections_by known traits (s + 1) xs
-
--- the alignment of each section; the first section of the list has the number s
-abbrev pub alignments_by : (ℕ → Traits) → ℕ → List Name → List ℕ
-alignments_by traits s [] = []
-alignments_by traits s (x ∷ xs) = (traits s).alignment ∷ alignments_by traits (s + 1) xs
+-- the lists of a table whose rows have these fates and whose sections these facts, where this stands after the last place,
+-- and these are the symbols of the script
+pub record IsListed (inputs : InputTable) (fates : List (Option Kept)) (facts : List Facts) (state : State) (found : List PlacedSymbol) (lists : Lists) : Type 0 where
+  pub sections : lists.sections ≡ placed_sections state.known 0 facts
+  pub placements : lists.placements ≡ placed_inputs state.known 0 fates
+  pub locations : lists.locations ≡ state.locations
+  pub symbols : lists.symbols ≡ table_symbols state.known fates inputs.symbols ++ found
+  pub names : lists.names ≡ row_names inputs.rows

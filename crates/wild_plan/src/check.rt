@@ -1,23 +1,30 @@
 //! What is checked before a script and its rows are laid out.
 
-ghost use Rattle.std.specs.Prelude.{◌≡◌, [], ◌∷◌, ◌++◌, OnOk, IfOk, not, slice_get, length};
+ghost use Rattle.std.specs.Prelude.{◌≡◌, [], ◌∷◌, ◌++◌, OnOk, IfOk, IfErr, not, slice_get, length};
 ghost use Rattle.std.specs.List.{list_any};
 ghost use Rattle.wild_numbering.specs.Numbering.{is_named};
 ghost use Rattle.wild_names.specs.declared.fault.Fault.TheVariants.{DuplicateSymbol};
-ghost use Rattle.wild_plan_spec.specs.Checks.{row_checks, holds_offset, symbol_checks, name_checks, are_flags_built, is_supported, support_checks, failing};
+ghost use Rattle.wild_plan_spec.specs.Checks.{row_checks, holds_offset, symbol_checks, table_checks, name_checks, are_flags_built, is_supported, support_checks, checks, failing};
 ghost use Rattle.wild_plan_spec.specs.Definitions.{entry_names};
+ghost use Rattle.wild_plan.specs.Case.{shown_case};
+ghost use Rattle.wild_plan.specs.Checked.{IsChecked};
 ghost use Rattle.wild_plan.specs.Entries.{shown_entries};
-ghost use Rattle.wild_fates.specs.Passes.{Passes, repeated};
+ghost use Rattle.wild_fates.specs.Passes.{IsWanted, Passes, repeated};
 
+use crate::case::Case;
+use crate::definitions::{Definitions, find_firm_entries, push_provided_entries};
 use bitflags::Flags;
 use std::alloc::Global;
 use wild_base::{Alignment, Fault, InputFlags, Name, NoMemory};
 use wild_eval::SymbolEntry;
+use wild_fates::decide_fates;
 use wild_numbering::Numbering;
-use wild_plan_spec::{InputRow, Kept, SymbolRow};
+use wild_plan_spec::{InputRow, InputTable, Kept, SymbolRow};
 
-/// Checks that each row has an alignment. The fault is that of the first that has none.
-pub fn check_rows(rows: &[InputRow]) -> Result<(), Fault>
+// ---- the table
+
+// Checks that each row has an alignment. The fault is that of the first that has none.
+fn check_rows(rows: &[InputRow]) -> Result<(), Fault>
     ensures { Passes (failing (row_checks 0 rows.now)) result }
 {
     for (number, row) in rows.iter().enumerate() {
@@ -38,8 +45,8 @@ fn is_in_row(rows: &[InputRow], symbol: &SymbolRow) -> bool
     }
 }
 
-/// Checks that each symbol of a table lies in a row. The fault is that of the first that does not.
-pub fn check_symbols(rows: &[InputRow], symbols: &[SymbolRow]) -> Result<(), Fault>
+// Checks that each symbol of a table lies in a row. The fault is that of the first that does not.
+fn check_symbols(rows: &[InputRow], symbols: &[SymbolRow]) -> Result<(), Fault>
     ensures { Passes (failing (symbol_checks rows.now 0 symbols.now)) result }
 {
     for (number, symbol) in symbols.iter().enumerate() {
@@ -52,7 +59,18 @@ pub fn check_symbols(rows: &[InputRow], symbols: &[SymbolRow]) -> Result<(), Fau
     Ok(())
 }
 
-/// Puts a name after the others. Answers whether none of them was the same.
+// What is checked of a table alone: its rows, then its symbols.
+fn check_table(inputs: &InputTable) -> Result<(), Fault>
+    ensures { Passes (failing (table_checks inputs.now)) result }
+{
+    let rows = inputs.rows.as_slice();
+    check_rows(rows)?;
+    check_symbols(rows, inputs.symbols.as_slice())
+}
+
+// ---- names
+
+// Puts a name after the others. Answers whether none of them was the same.
 #[tactic(auto, using(wild_fates::proofs::Names::any_number))]
 fn push_name(alloc: Global, names: &mut Numbering, name: &Name) -> Result<bool, NoMemory>
     ensures pushed { OnOk result (names.new ≡ names.old ++ name.now ∷ []) }
@@ -76,9 +94,9 @@ fn push_symbol(alloc: Global, names: &mut Numbering, entry: &SymbolEntry<'_>) ->
     }
 }
 
-/// The names of the entries, of which no two are the same. The fault is that of the first with the name of an earlier
-/// one.
-pub fn number_entries(alloc: Global, entries: &[SymbolEntry<'_>]) -> Result<Numbering, Fault>
+// The names of the entries, of which no two are the same. The fault is that of the first with the name of an earlier
+// one.
+fn number_entries(alloc: Global, entries: &[SymbolEntry<'_>]) -> Result<Numbering, Fault>
     ensures names { IfOk result (λ names. names ≡ entry_names (shown_entries entries.now)) }
     ensures passes { Passes (failing (name_checks DuplicateSymbol [] (entry_names (shown_entries entries.now)))) result }
 {
@@ -89,7 +107,9 @@ pub fn number_entries(alloc: Global, entries: &[SymbolEntry<'_>]) -> Result<Numb
     Ok(names)
 }
 
-/// It is in memory, and neither without bits nor thread-local.
+// ---- flags
+
+// It is in memory, and neither without bits nor thread-local.
 fn are_flags_built(flags: InputFlags) -> bool
     ensures { result ≡ are_flags_built flags }
 {
@@ -108,8 +128,8 @@ fn is_supported(fate: Option<Kept>, flags: InputFlags) -> bool
     }
 }
 
-/// Checks that the flags of each row that is kept are built. The fault is that of the first row with others.
-pub fn check_support(rows: &[InputRow], fates: &[Option<Kept>]) -> Result<(), Fault>
+// Checks that the flags of each row that is kept are built. The fault is that of the first row with others.
+fn check_support(rows: &[InputRow], fates: &[Option<Kept>]) -> Result<(), Fault>
     requires { length fates.now ≡ length rows.now }
     ensures { Passes (failing (support_checks 0 rows.now fates.now)) result }
 {
@@ -119,4 +139,29 @@ pub fn check_support(rows: &[InputRow], fates: &[Option<Kept>]) -> Result<(), Fa
         }
     }
     Ok(())
+}
+
+// ---- all checks
+
+/// Checks a case, and answers what it defines: the table, then the places of the script and the names of its sections, then
+/// the names of the symbols, then that the rows are built.
+#[tactic(auto, using(wild_fates::proofs::Orphans::fates_length))]
+pub fn check<'a>(alloc: Global, case: &Case<'a>) -> Result<Definitions<'a>, Fault>
+    ensures sound { IfOk result (IsChecked (shown_case case.now)) }
+    ensures failing { IfErr result (IsWanted (failing (checks (shown_case case.now)))) }
+{
+    check_table(case.inputs)?;
+    let script_fates = decide_fates(alloc, case.tree, case.inputs)?;
+    let fates = script_fates.fates.as_slice();
+    let places = script_fates.places.as_slice();
+    let symbols = case.inputs.symbols.as_slice();
+    let mut entries = find_firm_entries(alloc, fates, symbols, places)?;
+    let mut names = number_entries(alloc, entries.as_slice())?;
+    check_support(case.inputs.rows.as_slice(), fates)?;
+    push_provided_entries(alloc, &mut entries, &mut names, places)?;
+    Ok(Definitions {
+        script_fates,
+        entries,
+        names,
+    })
 }

@@ -2,28 +2,29 @@
 
 ghost use Rattle.std.specs.Prelude.{◌≡◌, [], ◌∷◌, ◌++◌, OnOk, IfOk};
 ghost use Rattle.wild_eval.specs.Scope.{shown_definition};
-ghost use Rattle.wild_plan_spec.specs.Definitions.{entry_of, symbol_chunk, table_entry, table_entries, point_of, assigned_by, assigned_entries, provide_entry, provided_by, provided_entries, firm_entries, entry_names};
+ghost use Rattle.wild_plan_spec.specs.Definitions.{entry_of, symbol_chunk, table_entry, table_entries, assigned_entry, assigned_entries, provide_entry, provided_entry, provided_entries, firm_entries, entry_names};
 ghost use Rattle.wild_plan.specs.Entries.{shown_entries};
-ghost use Rattle.wild_fates.specs.Shown.{shown_places, shown_place, shown_task};
+ghost use Rattle.wild_fates.specs.Shown.{shown_places, shown_place};
 
+use crate::points::task_point;
 use sqlite_items::Items;
 use std::alloc::Global;
 use wild_base::{Name, NoMemory};
 use wild_eval::{Definition, SymbolEntry};
-use wild_fates::{Place, Task};
+use wild_fates::{Place, ScriptFates, Task};
 use wild_numbering::Numbering;
-use wild_plan_spec::{Chunk, Kept, SymbolRow};
+use wild_plan_spec::{Chunk, Kept, SymbolRow, Where};
 use wild_script::ProvideSymbolDefinition;
-use wild_value_spec::Point;
 
-/// A place, which is in no section's contents, as the point of an expression.
-pub fn point_of(place: usize) -> Point
-    ensures { result ≡ point_of place }
-{
-    Point {
-        place,
-        section: None,
-    }
+/// What a script and a table define.
+#[derive(Drop)]
+pub struct Definitions<'a> {
+    /// The sections, the places and where each row goes.
+    pub script_fates: ScriptFates<'a>,
+    /// The definitions of symbols.
+    pub entries: Items<SymbolEntry<'a>>,
+    /// The names of the entries, to find the number of a symbol.
+    pub names: Numbering,
 }
 
 #[tactic(auto, using(crate::proofs::Entries::entries_append))]
@@ -94,16 +95,17 @@ fn push_table_entries<'a>(
     Ok(())
 }
 
-fn push_assignment<'a>(
+// The entry of an assignment.
+fn push_assigned_entry<'a>(
     entries: &mut Items<SymbolEntry<'a>>,
     index: usize,
-    task: Option<Task<'a>>,
+    place: &Place<'a>,
 ) -> Result<(), NoMemory>
-    ensures { OnOk result (shown_entries entries.new ≡ shown_entries entries.old ++ assigned_by index (shown_task task.entry)) }
+    ensures { OnOk result (shown_entries entries.new ≡ shown_entries entries.old ++ assigned_entry index (shown_place place.now)) }
 {
-    match task {
-        Some(Task::Assign(name, value)) => {
-            let point = point_of(index);
+    match *place {
+        Place::Wait(stand, Task::Assign(name, value)) => {
+            let point = task_point(index, stand);
             push_named(entries, name, Definition::OfScript { value, point })
         }
         _ => Ok(()),
@@ -117,16 +119,17 @@ fn push_provide_entry<'a>(
     entries: &mut Items<SymbolEntry<'a>>,
     names: &mut Numbering,
     index: usize,
+    stand: Where,
     provide: &'a ProvideSymbolDefinition,
 ) -> Result<(), NoMemory>
-    ensures entries { OnOk result (shown_entries entries.new ≡ shown_entries entries.old ++ provide_entry index provide.now) }
-    ensures names { OnOk result (names.new ≡ names.old ++ entry_names (provide_entry index provide.now)) }
+    ensures entries { OnOk result (shown_entries entries.new ≡ shown_entries entries.old ++ provide_entry index stand provide.now) }
+    ensures names { OnOk result (names.new ≡ names.old ++ entry_names (provide_entry index stand provide.now)) }
 {
     if provide.name.is_empty() {
         return Ok(());
     }
     names.push(alloc, &provide.name)?;
-    let (value, point) = (&provide.value, point_of(index));
+    let (value, point) = (&provide.value, task_point(index, stand));
     let definition = Definition::OfScript { value, point };
     push(
         entries,
@@ -137,18 +140,20 @@ fn push_provide_entry<'a>(
     )
 }
 
-fn push_if_provide<'a>(
+fn push_provided_entry<'a>(
     alloc: Global,
     entries: &mut Items<SymbolEntry<'a>>,
     names: &mut Numbering,
     index: usize,
-    task: Option<Task<'a>>,
+    place: &Place<'a>,
 ) -> Result<(), NoMemory>
-    ensures entries { OnOk result (shown_entries entries.new ≡ shown_entries entries.old ++ provided_by index (shown_task task.entry)) }
-    ensures names { OnOk result (names.new ≡ names.old ++ entry_names (provided_by index (shown_task task.entry))) }
+    ensures entries { OnOk result (shown_entries entries.new ≡ shown_entries entries.old ++ provided_entry index (shown_place place.now)) }
+    ensures names { OnOk result (names.new ≡ names.old ++ entry_names (provided_entry index (shown_place place.now))) }
 {
-    match task {
-        Some(Task::Provide(provide)) => push_provide_entry(alloc, entries, names, index, provide),
+    match *place {
+        Place::Wait(stand, Task::Provide(provide)) => {
+            push_provide_entry(alloc, entries, names, index, stand, provide)
+        }
         _ => Ok(()),
     }
 }
@@ -160,7 +165,7 @@ fn push_assigned_entries<'a>(
     ensures { OnOk result (shown_entries entries.new ≡ shown_entries entries.old ++ assigned_entries 0 (shown_places places.now)) }
 {
     for (index, place) in places.iter().enumerate() {
-        push_assignment(entries, index, place.task())?;
+        push_assigned_entry(entries, index, place)?;
     }
     Ok(())
 }
@@ -191,7 +196,7 @@ pub fn push_provided_entries<'a>(
     ensures names { OnOk result (names.new ≡ names.old ++ entry_names (provided_entries 0 (shown_places places.now))) }
 {
     for (index, place) in places.iter().enumerate() {
-        push_if_provide(alloc, entries, names, index, place.task())?;
+        push_provided_entry(alloc, entries, names, index, place)?;
     }
     Ok(())
 }

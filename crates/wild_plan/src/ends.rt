@@ -1,83 +1,97 @@
 //! What is evaluated once all places are laid out: the symbols of the script, then its ASSERTs.
 
 ghost use Rattle.std.specs.Prelude.{◌≡◌};
-ghost use Rattle.wild_eval.specs.Scope.{path_of, scope_of};
-ghost use Rattle.wild_eval.specs.Addresses.{known_of};
+ghost use Rattle.wild_eval.specs.Scope.{path_of};
+ghost use Rattle.wild_fates.specs.Shown.{shown_place, shown_places, shown_task};
 ghost use Rattle.wild_plan_spec.specs.Conditions as spec;
-ghost use Rattle.wild_plan_spec.specs.Definitions as definitions;
 ghost use Rattle.wild_plan_spec.specs.End.{final_symbols};
-ghost use Rattle.wild_fates.specs.Shown.{shown_places, shown_task};
-ghost use Rattle.wild_value_spec.specs.Answer.{Returns};
-ghost use Rattle.wild_value_spec.specs.Value.{full};
+ghost use Rattle.wild_plan_spec.specs.Points.{task_point};
+ghost use Rattle.wild_plan.specs.End.{known, scope};
+ghost use Rattle.wild_value_spec.specs.Answer.{Gives, Returns};
+ghost use Rattle.wild_value_spec.specs.Value.{full_value};
 
-use crate::definitions::point_of;
+use crate::ground::Ground;
+use crate::points::task_point;
 use sqlite_items::Items;
-use std::alloc::Global;
 use wild_base::Fault;
-use wild_eval::{Addresses, Evaluator, Path, Scope};
+use wild_eval::{Addresses, Evaluator, Path};
 use wild_fates::{Place, Task};
-use wild_plan_spec::PlacedSymbol;
+use wild_plan_spec::{PlacedSymbol, Where};
 use wild_script::{AssertCommand, Expression};
 
 /// What all is evaluated over, once all places are laid out.
 #[derive(Drop)]
 pub struct End<'a> {
-    pub alloc: Global,
-    /// The sections and the symbols.
-    pub scope: &'a Scope<'a>,
+    pub ground: &'a Ground<'a>,
     pub addresses: &'a Addresses,
 }
 
 impl End<'_> {
-    /// The value of an expression at a place, over what is known.
-    pub fn full(&self, path: &Path<'_>, place: usize, expression: &Expression) -> Result<u64, Fault>
-        ensures { Returns result (full (scope_of self.now.scope.now) place (known_of self.now.addresses.now) 1024 (path_of path.now) expression.now (definitions.point_of place)) }
+    /// The value of an expression of a task that stands here, over what is known.
+    pub fn full(
+        &self,
+        path: &Path<'_>,
+        place: usize,
+        stand: Where,
+        expression: &Expression,
+    ) -> Result<u64, Fault>
+        ensures { Gives result (full_value (scope self.now) place (known self.now) (path_of path.now) expression.now (task_point place stand)) }
     {
         let evaluator = Evaluator {
-            alloc: self.alloc,
-            scope: self.scope,
+            alloc: self.ground.alloc,
+            scope: &self.ground.scope,
             addresses: self.addresses,
             statement: place,
         };
-        evaluator.full(path, expression, point_of(place))
+        evaluator.full(path, expression, task_point(place, stand))
     }
 
-    fn assert_holds(&self, place: usize, command: &AssertCommand) -> Result<(), Fault>
-        ensures { Returns result (spec.assert_holds (scope_of self.now.scope.now) (known_of self.now.addresses.now) place command.now) }
+    fn assert_holds(&self, place: usize, stand: Where, command: &AssertCommand) -> Result<(), Fault>
+        ensures { Gives result (spec.assert_holds (scope self.now) (known self.now) place stand command.now) }
     {
         let evaluator = Evaluator {
-            alloc: self.alloc,
-            scope: self.scope,
+            alloc: self.ground.alloc,
+            scope: &self.ground.scope,
             addresses: self.addresses,
             statement: place,
         };
-        evaluator.check(command, point_of(place))?;
+        evaluator.check(command, task_point(place, stand))?;
         Ok(())
     }
 
     #[tactic(auto, unfolding(wild_plan_spec::specs::Conditions::task_holds))]
-    fn task_holds(&self, place: usize, task: Option<Task<'_>>) -> Result<(), Fault>
-        ensures { Returns result (spec.task_holds (scope_of self.now.scope.now) (known_of self.now.addresses.now) place (shown_task task.entry)) }
+    fn task_holds(&self, place: usize, stand: Where, task: Task<'_>) -> Result<(), Fault>
+        ensures { Gives result (spec.task_holds (scope self.now) (known self.now) place stand (shown_task task.entry)) }
     {
         match task {
-            Some(Task::Check(command)) => self.assert_holds(place, command),
+            Task::Check(command) => self.assert_holds(place, stand, command),
+            Task::Assign(_, _) | Task::Provide(_) | Task::Locate(_) => Ok(()),
+        }
+    }
+
+    #[tactic(auto, unfolding(wild_plan_spec::specs::Conditions::place_holds))]
+    fn place_holds(&self, number: usize, place: &Place<'_>) -> Result<(), Fault>
+        ensures { Gives result (spec.place_holds (scope self.now) (known self.now) number (shown_place place.now)) }
+    {
+        match *place {
+            Place::Wait(stand, task) => self.task_holds(number, stand, task),
             _ => Ok(()),
         }
     }
 
     // The conditions of the places, in text order.
     fn conditions(&self, places: &[Place<'_>]) -> Result<(), Fault>
-        ensures { Returns result (spec.conditions (scope_of self.now.scope.now) (known_of self.now.addresses.now) 0 (shown_places places.now)) }
+        ensures { Gives result (spec.conditions (scope self.now) (known self.now) 0 (shown_places places.now)) }
     {
-        for (index, place) in places.iter().enumerate() {
-            self.task_holds(index, place.task())?;
+        for (number, place) in places.iter().enumerate() {
+            self.place_holds(number, place)?;
         }
         Ok(())
     }
 
     /// The symbols of the places, where all have values and all conditions hold; or the first fault.
     pub fn final_symbols(&self, places: &[Place<'_>]) -> Result<Items<PlacedSymbol>, Fault>
-        ensures { Returns result (final_symbols (scope_of self.now.scope.now) (known_of self.now.addresses.now) (shown_places places.now)) }
+        ensures { Returns result (final_symbols (scope self.now) (known self.now) (shown_places places.now)) }
     {
         let found = self.symbols(places)?;
         self.conditions(places)?;

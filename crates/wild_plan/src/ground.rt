@@ -1,60 +1,120 @@
-//! What the places of a script are laid out on.
+//! What the places of a script are laid out by.
 
-ghost use Rattle.std.specs.Prelude.{◌≡◌, IfOk, length};
-ghost use Rattle.wild_plan.specs.Composed.{IsGround};
-ghost use Rattle.wild_plan.specs.Listed.{alignments_by};
-ghost use Rattle.wild_plan.specs.Traits.{traits_at};
-ghost use Rattle.wild_fates.specs.Targets.{targets};
+ghost use Rattle.std.specs.Prelude.{◌≡◌, IfOk};
+ghost use Rattle.wild_plan_spec.specs.Facts.{facts_of};
+ghost use Rattle.wild_plan_spec.specs.Ground.{ground_of};
+ghost use Rattle.wild_plan.specs.Basis.{IsBasis};
+ghost use Rattle.wild_plan.specs.Case.{shown_case};
+ghost use Rattle.wild_plan.specs.Checked.{IsChecked};
+ghost use Rattle.wild_plan.specs.Chunks.{rows_at};
+ghost use Rattle.wild_plan.specs.Facts.{shown_all};
+ghost use Rattle.wild_plan.specs.Ground.{shown_ground};
 
+use crate::case::Case;
 use crate::chunks::{Chunks, find_chunks};
-use crate::traits::{SectionTraits, find_traits};
+use crate::definitions::Definitions;
+use crate::facts::{Facts, alignments_in, find_facts};
 use sqlite_items::Items;
 use std::alloc::Global;
-use wild_base::{Alignment, Name, NoMemory};
-use wild_fates::ScriptFates;
-use wild_plan_spec::InputRow;
+use wild_base::{Alignment, NoMemory};
+use wild_eval::Scope;
 
-/// What the rows of a table and their fates say, before any address is known.
+/// What a script and its table say, beside what becomes known from place to place. The walk, the end and the lists all
+/// read it.
+#[derive(Clone, Copy)]
+pub struct Ground<'a> {
+    pub alloc: Global,
+    /// The sections and the symbols, as expressions ask for them.
+    pub scope: Scope<'a>,
+    /// What is said of each section.
+    pub facts: &'a [Facts<'a>],
+    /// The rows of each chunk in their order.
+    pub chunks: &'a Chunks,
+}
+
+impl<'a> Ground<'a> {
+    /// The alignment of a section, or the least one where there is none of that number.
+    pub fn alignment(&self, section: usize) -> Alignment
+        ensures { result ≡ ((shown_ground self.now).facts section).alignment }
+    {
+        match self.facts.get(section) {
+            Some(facts) => facts.alignment,
+            None => wild_base::alignment::MIN,
+        }
+    }
+
+    /// The name of a section, or no bytes where there is none of that number.
+    pub fn section_name(&self, section: usize) -> &'a [u8]
+        ensures { result.now ≡ ((shown_ground self.now).facts section).name }
+    {
+        match self.facts.get(section) {
+            Some(facts) => facts.name.bytes(),
+            None => {
+                let none: &[u8] = &[];
+                none
+            }
+        }
+    }
+}
+
+/// What the rows of a table say of sections and chunks.
 #[derive(Drop)]
-pub struct Ground {
-    pub traits: SectionTraits,
+pub struct Basis<'a> {
+    /// What is said of each section.
+    pub facts: Items<Facts<'a>>,
     /// The alignment of each section.
     pub alignments: Items<Alignment>,
     /// The rows of each chunk in their order.
     pub chunks: Chunks,
 }
 
-// The alignments of the sections of these names.
-fn alignments(
+/// What the rows of a case say of its sections and chunks. Fails where memory runs out.
+pub fn find_basis<'a>(
     alloc: Global,
-    traits: &SectionTraits,
-    names: &[&Name],
-) -> Result<Items<Alignment>, NoMemory>
-    ensures { IfOk result (λ alignments. alignments ≡ alignments_by (traits_at traits.now) 0 (targets names.now)) }
+    case: &Case<'a>,
+    definitions: &Definitions<'a>,
+) -> Result<Basis<'a>, NoMemory>
+    requires { IsChecked (shown_case case.now) definitions.now }
+    ensures { IfOk result (IsBasis (shown_case case.now)) }
 {
-    let mut alignments = Items::new(alloc);
-    for (number, _) in names.iter().enumerate() {
-        alignments.push(traits.get(number).alignment)?;
-    }
-    Ok(alignments)
-}
-
-/// What rows with these fates say. Fails where memory runs out.
-pub fn find_ground(
-    alloc: Global,
-    rows: &[InputRow],
-    script_fates: &ScriptFates<'_>,
-) -> Result<Ground, NoMemory>
-    requires { length script_fates.now.fates ≡ length rows.now }
-    ensures { IfOk result (IsGround rows.now script_fates.now) }
-{
-    let fates = script_fates.fates.as_slice();
-    let traits = find_traits(alloc, rows, fates)?;
-    let alignments = alignments(alloc, &traits, script_fates.names.as_slice())?;
+    let rows = case.inputs.rows.as_slice();
+    let fates = definitions.script_fates.fates.as_slice();
+    let names = definitions.script_fates.names.as_slice();
+    let facts = find_facts(alloc, rows, fates, names)?;
+    let alignments = alignments_in(alloc, facts.as_slice())?;
     let chunks = find_chunks(alloc, rows, fates)?;
-    Ok(Ground {
-        traits,
+    Ok(Basis {
+        facts,
         alignments,
         chunks,
     })
+}
+
+/// The ground of a case.
+pub fn ground_on<'a, 'b>(
+    alloc: Global,
+    case: &Case<'a>,
+    definitions: &'a Definitions<'b>,
+    basis: &'a Basis<'b>,
+) -> Ground<'a>
+    requires checked { IsChecked (shown_case case.now) definitions.now }
+    requires basis { IsBasis (shown_case case.now) basis.now }
+    ensures ground { shown_ground result ≡ ground_of (shown_case case.now) (rows_at basis.now.chunks) }
+    ensures facts { shown_all result.facts.now ≡ facts_of case.now.tree.now case.now.inputs.now }
+{
+    let names = &definitions.script_fates.names;
+    let scope = Scope {
+        sections: names.as_slice(),
+        section_numbers: names.numbers(),
+        alignments: basis.alignments.as_slice(),
+        symbols: &definitions.names,
+        entries: definitions.entries.as_slice(),
+        script: case.script,
+    };
+    Ground {
+        alloc,
+        scope,
+        facts: basis.facts.as_slice(),
+        chunks: &basis.chunks,
+    }
 }

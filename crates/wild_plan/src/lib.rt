@@ -1,15 +1,18 @@
 //! Placement plans: where a script puts each input section of a table.
 #![tactic(auto)]
 
+mod case;
 mod check;
 mod chunks;
 mod definitions;
 mod ends;
+mod facts;
 mod ground;
 mod listing;
 mod lists;
 mod overlap;
 mod pipeline;
+mod points;
 mod symbols;
 mod traits;
 mod walk;

@@ -1,53 +1,35 @@
 //! What a plan lists, once all places are laid out.
 
 ghost use Rattle.std.specs.Prelude.{◌≡◌, IfOk};
-ghost use Rattle.wild_plan_spec.specs.Layout.{placed_input, placed_inputs, row_names};
-ghost use Rattle.wild_plan.specs.Listed.{flags_by, section_by, sections_by};
-ghost use Rattle.wild_fates.specs.Targets.{targets};
+ghost use Rattle.wild_plan_spec.specs.Layout.{placed_input, placed_inputs, placed_section, placed_sections, row_names};
+ghost use Rattle.wild_plan.specs.Facts.{shown_all, shown_facts};
 ghost use Rattle.wild_eval.specs.Addresses.{known_of};
-ghost use Rattle.wild_plan.specs.Traits.{traits_at};
 
-use crate::traits::{SectionTraits, Traits};
-use bitflags::Flags;
+use crate::facts::Facts;
 use sqlite_items::Items;
 use std::alloc::Global;
-use wild_base::{InputFlags, Name, NoMemory};
+use wild_base::NoMemory;
 use wild_eval::Addresses;
 use wild_plan_spec::{InputRow, Kept, Names, PlacedInput, PlacedSection, RowNames};
 
-/// In memory, and writable or executable where a row is.
-fn flags_by(traits: Traits) -> InputFlags
-    ensures { result ≡ flags_by traits }
-{
-    let mut flags = InputFlags::ALLOC;
-    if traits.write {
-        flags.insert(InputFlags::WRITE);
-    }
-    if traits.exec {
-        flags.insert(InputFlags::EXEC);
-    }
-    flags
-}
-
-/// The section of this number, with these traits.
+// The section of this number.
 fn placed_section(
     alloc: Global,
     addresses: &Addresses,
-    traits: Traits,
     number: usize,
-    name: &Name,
+    facts: &Facts<'_>,
 ) -> Result<PlacedSection, NoMemory>
-    ensures { IfOk result (λ placed. placed ≡ section_by (known_of addresses.now) number name.now traits) }
+    ensures { IfOk result (λ placed. placed ≡ placed_section (known_of addresses.now) number (shown_facts facts.now)) }
 {
-    let name = name.copy(alloc)?;
+    let name = facts.name.copy(alloc)?;
     let start = addresses.start(number);
     Ok(PlacedSection {
         name,
         start,
         load: addresses.load(number),
         size: addresses.end(number).saturating_sub(start),
-        alignment: traits.alignment,
-        flags: flags_by(traits),
+        alignment: facts.alignment,
+        flags: facts.flags,
         fill: None,
         region: None,
         headers: Names::new(alloc),
@@ -55,18 +37,17 @@ fn placed_section(
     })
 }
 
-/// The sections of these names, numbered in their order.
+/// The sections of which this is said, numbered in their order.
 pub fn placed_sections(
     alloc: Global,
     addresses: &Addresses,
-    traits: &SectionTraits,
-    names: &[&Name],
+    facts: &[Facts<'_>],
 ) -> Result<Items<PlacedSection>, NoMemory>
-    ensures { IfOk result (λ placed. placed ≡ sections_by (known_of addresses.now) (traits_at traits.now) 0 (targets names.now)) }
+    ensures { IfOk result (λ placed. placed ≡ placed_sections (known_of addresses.now) 0 (shown_all facts.now)) }
 {
     let mut placed = Items::new(alloc);
-    for (i, name) in names.iter().enumerate() {
-        placed.push(placed_section(alloc, addresses, traits.get(i), i, name)?)?;
+    for (number, section) in facts.iter().enumerate() {
+        placed.push(placed_section(alloc, addresses, number, section)?)?;
     }
     Ok(placed)
 }

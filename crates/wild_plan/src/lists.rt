@@ -2,6 +2,7 @@
 
 ghost use Rattle.std.specs.Prelude.{◌≡◌, ◌<◌, length, slice_get, Some, IfOk};
 ghost use Rattle.wild_plan_spec.specs.Text.{plan_text};
+ghost use Rattle.wild_plan.specs.Listed.{shown_lists};
 ghost use Rattle.wild_plan_spec.specs.declared.placed.RowNames.{RowNames};
 
 use sqlite_items::Items;
@@ -44,7 +45,7 @@ impl Model for Plan {
 impl Plan {
     /// A plan of these lists.
     pub(crate) fn new(script: LinkerScript, lists: Lists) -> Plan
-        ensures { result ≡ record { script = script; sections = lists.sections; placements = lists.placements; locations = lists.locations; symbols = lists.symbols; names = lists.names } }
+        ensures { result ≡ shown_lists script lists }
     {
         Plan { script, lists }
     }

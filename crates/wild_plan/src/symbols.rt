@@ -2,10 +2,11 @@
 
 ghost use Rattle.std.specs.Prelude.{◌≡◌, ◌++◌, OnOk, IfOk};
 ghost use Rattle.std.specs.Option.{option_map, option_to_list};
-ghost use Rattle.wild_eval.specs.Scope.{scope_of, shown_definition};
+ghost use Rattle.wild_eval.specs.Scope.{shown_definition};
 ghost use Rattle.wild_eval.specs.Addresses.{known_of};
 ghost use Rattle.wild_plan_spec.specs.Symbols as spec;
-ghost use Rattle.wild_fates.specs.Shown.{shown_places, shown_task};
+ghost use Rattle.wild_fates.specs.Shown.{shown_place, shown_places, shown_task};
+ghost use Rattle.wild_plan.specs.End.{known, scope};
 ghost use Rattle.wild_value_spec.specs.Answer.{Returns};
 
 use crate::definitions::symbol_chunk;
@@ -15,7 +16,7 @@ use std::alloc::{AllocError, Global};
 use wild_base::{Fault, Name, NoMemory};
 use wild_eval::{Addresses, Definition, Path};
 use wild_fates::{Place, Task};
-use wild_plan_spec::{Chunk, Kept, PlacedSymbol, SymbolRow};
+use wild_plan_spec::{Chunk, Kept, PlacedSymbol, SymbolRow, Where};
 use wild_script::{Expression, ProvideSymbolDefinition};
 
 // ---- of the table
@@ -92,10 +93,15 @@ fn push_listed(
 impl End<'_> {
     // An expression has a value, and nothing is listed.
     #[tactic(auto, unfolding(wild_plan_spec::specs::Symbols::unlisted))]
-    fn unlisted(&self, place: usize, expression: &Expression) -> Result<Option<PlacedSymbol>, Fault>
-        ensures { Returns result (spec.unlisted (scope_of self.now.scope.now) (known_of self.now.addresses.now) place expression.now) }
+    fn unlisted(
+        &self,
+        place: usize,
+        stand: Where,
+        expression: &Expression,
+    ) -> Result<Option<PlacedSymbol>, Fault>
+        ensures { Returns result (spec.unlisted (scope self.now) (known self.now) place stand expression.now) }
     {
-        self.full(&Path::Start, place, expression)?;
+        self.full(&Path::Start, place, stand, expression)?;
         Ok(None)
     }
 
@@ -104,15 +110,16 @@ impl End<'_> {
     fn listed_symbol(
         &self,
         place: usize,
+        stand: Where,
         name: &Name,
         expression: &Expression,
         hidden: bool,
     ) -> Result<Option<PlacedSymbol>, Fault>
-        ensures { Returns result (spec.listed_symbol (scope_of self.now.scope.now) (known_of self.now.addresses.now) place name.now expression.now hidden) }
+        ensures { Returns result (spec.listed_symbol (scope self.now) (known self.now) place stand name.now expression.now hidden) }
     {
-        let address = self.full(&Path::Through(name, &Path::Start), place, expression)?;
+        let address = self.full(&Path::Through(name, &Path::Start), place, stand, expression)?;
         Ok(Some(PlacedSymbol {
-            name: name.copy(self.alloc)?,
+            name: name.copy(self.ground.alloc)?,
             address,
             section: None,
             hidden,
@@ -124,15 +131,16 @@ impl End<'_> {
     fn assignment_symbol(
         &self,
         place: usize,
+        stand: Where,
         name: &Name,
         expression: &Expression,
     ) -> Result<Option<PlacedSymbol>, Fault>
-        ensures { Returns result (spec.assignment_symbol (scope_of self.now.scope.now) (known_of self.now.addresses.now) place name.now expression.now) }
+        ensures { Returns result (spec.assignment_symbol (scope self.now) (known self.now) place stand name.now expression.now) }
     {
         if name.is_empty() {
-            self.unlisted(place, expression)
+            self.unlisted(place, stand, expression)
         } else {
-            self.listed_symbol(place, name, expression, false)
+            self.listed_symbol(place, stand, name, expression, false)
         }
     }
 
@@ -140,13 +148,15 @@ impl End<'_> {
     fn provide_symbol(
         &self,
         place: usize,
+        stand: Where,
         definition: &ProvideSymbolDefinition,
     ) -> Result<Option<PlacedSymbol>, Fault>
-        ensures { Returns result (spec.provide_symbol (scope_of self.now.scope.now) (known_of self.now.addresses.now) place definition.now) }
+        ensures { Returns result (spec.provide_symbol (scope self.now) (known self.now) place stand definition.now) }
     {
-        if is_at(place, self.scope.definition(&definition.name)) {
+        if is_at(place, self.ground.scope.definition(&definition.name)) {
             self.listed_symbol(
                 place,
+                stand,
                 &definition.name,
                 &definition.value,
                 definition.hidden,
@@ -160,25 +170,38 @@ impl End<'_> {
     fn task_symbol(
         &self,
         place: usize,
-        task: Option<Task<'_>>,
+        stand: Where,
+        task: Task<'_>,
     ) -> Result<Option<PlacedSymbol>, Fault>
-        ensures { Returns result (spec.task_symbol (scope_of self.now.scope.now) (known_of self.now.addresses.now) place (shown_task task.entry)) }
+        ensures { Returns result (spec.task_symbol (scope self.now) (known self.now) place stand (shown_task task.entry)) }
     {
         match task {
-            Some(Task::Assign(name, expression)) => self.assignment_symbol(place, name, expression),
-            Some(Task::Provide(definition)) => self.provide_symbol(place, definition),
-            Some(Task::Locate(expression)) => self.unlisted(place, expression),
-            Some(Task::Check(_)) | None => Ok(None),
+            Task::Assign(name, expression) => {
+                self.assignment_symbol(place, stand, name, expression)
+            }
+            Task::Provide(definition) => self.provide_symbol(place, stand, definition),
+            Task::Locate(expression) => self.unlisted(place, stand, expression),
+            Task::Check(_) => Ok(None),
+        }
+    }
+
+    #[tactic(auto, unfolding(wild_plan_spec::specs::Symbols::place_symbol))]
+    fn place_symbol(&self, number: usize, place: &Place<'_>) -> Result<Option<PlacedSymbol>, Fault>
+        ensures { Returns result (spec.place_symbol (scope self.now) (known self.now) number (shown_place place.now)) }
+    {
+        match *place {
+            Place::Wait(stand, task) => self.task_symbol(number, stand, task),
+            _ => Ok(None),
         }
     }
 
     /// The symbols of the places, in text order.
     pub fn symbols(&self, places: &[Place<'_>]) -> Result<Items<PlacedSymbol>, Fault>
-        ensures { Returns result (spec.symbols (scope_of self.now.scope.now) (known_of self.now.addresses.now) 0 (shown_places places.now)) }
+        ensures { Returns result (spec.symbols (scope self.now) (known self.now) 0 (shown_places places.now)) }
     {
-        let mut found = Items::new(self.alloc);
-        for (index, place) in places.iter().enumerate() {
-            let symbol = self.task_symbol(index, place.task())?;
+        let mut found = Items::new(self.ground.alloc);
+        for (number, place) in places.iter().enumerate() {
+            let symbol = self.place_symbol(number, place)?;
             push_listed(&mut found, symbol)?;
         }
         Ok(found)

@@ -1,24 +1,23 @@
 //! The walk over the places of a script, which finds each address.
 
-ghost use Rattle.std.specs.Prelude.{◌≡◌, ◌⊎◌, ℕ, length, IfOk, IfErr};
+ghost use Rattle.std.specs.Prelude.{◌≡◌, ◌⊎◌, length, IfOk, IfErr, OnOk};
 ghost use Rattle.wild_names.specs.declared.fault.Fault.TheVariants as fault;
 ghost use Rattle.wild_value_spec.specs.Answer.{Returns};
 ghost use Rattle.wild_value_spec.specs.Value.{sum_of};
-ghost use Rattle.wild_eval.specs.Scope.{scope_of};
 ghost use Rattle.wild_plan_spec.specs.Chunks.{largest};
-ghost use Rattle.wild_plan_spec.specs.Steps.{first_state, up, section_opened, row_placed, rows_placed, chunk_placed, chunk_collected, section_ended, section_ended_alone, section_ended_after, section_closed, location_set, counter_noted, step};
+ghost use Rattle.wild_plan_spec.specs.Steps.{first_state, up, dot_before, dot_noted, section_opened, row_placed, rows_placed, chunk_placed, chunk_collected, section_ended, section_ended_alone, section_ended_after, section_closed, location_set, effect, step};
 ghost use Rattle.wild_plan_spec.specs.Walk.{Stands, Refuses};
-ghost use Rattle.wild_plan.specs.Chunks.{rows_at};
+ghost use Rattle.wild_plan.specs.Ground.{shown_ground};
 ghost use Rattle.wild_plan.specs.Moves.{Moves, state_of};
 ghost use Rattle.wild_fates.specs.Shown.{shown_place, shown_places};
 
-use crate::chunks::Chunks;
-use crate::definitions::point_of;
+use crate::ground::Ground;
 use crate::overlap::lowest_sharing;
+use crate::points::location_point;
 use sqlite_items::Items;
-use std::alloc::Global;
+use std::alloc::{AllocError, Global};
 use wild_base::{Alignment, Fault, Name, NoMemory, alignment};
-use wild_eval::{Addresses, Evaluator, Path, Scope};
+use wild_eval::{Addresses, Evaluator, Path};
 use wild_fates::Place;
 use wild_plan_spec::{Chunk, ChunkRow, PlacedLocation};
 use wild_script::Expression;
@@ -70,32 +69,34 @@ fn largest(rows: &[ChunkRow]) -> Alignment
 }
 
 /// The fault of two sections that share an address.
-fn overlap(alloc: Global, scope: &Scope<'_>, first: usize, second: usize) -> Result<Fault, NoMemory>
-    ensures { IfOk result (λ f. f ≡ fault.Overlap ((scope_of scope.now).section_name first) ((scope_of scope.now).section_name second)) }
+fn overlap(ground: &Ground<'_>, first: usize, second: usize) -> Result<Fault, NoMemory>
+    ensures { IfOk result (λ f. f ≡ fault.Overlap ((shown_ground ground.now).facts first).name ((shown_ground ground.now).facts second).name) }
 {
     Ok(Fault::Overlap {
-        first: Name::new(alloc, scope.name_of(first))?,
-        second: Name::new(alloc, scope.name_of(second))?,
+        first: Name::new(ground.alloc, ground.section_name(first))?,
+        second: Name::new(ground.alloc, ground.section_name(second))?,
     })
 }
 
 impl Walk {
-    fn new(alloc: Global) -> Walk
-        ensures { state_of result ≡ first_state }
+    fn new(ground: &Ground<'_>) -> Walk
+        ensures { state_of result ≡ first_state (shown_ground ground.now) }
     {
         Walk {
             counter: 0,
             cursor: 0,
-            addresses: Addresses::new(alloc),
-            locations: Items::new(alloc),
+            addresses: Addresses::new(ground.alloc),
+            locations: Items::new(ground.alloc),
         }
     }
 
+    // ---- sections and rows
+
     #[tactic(auto, unfolding(wild_plan_spec::specs::Steps::section_opened))]
-    fn open_section(&mut self, section: usize, alignment: Alignment) -> Result<(), Fault>
-        ensures { Moves result self.new (section_opened section alignment (state_of self.old)) }
+    fn open_section(&mut self, ground: &Ground<'_>, section: usize) -> Result<(), Fault>
+        ensures { Moves result self.new (section_opened (shown_ground ground.now) section (state_of self.old)) }
     {
-        let start = up(self.counter, alignment)?;
+        let start = up(self.counter, ground.alignment(section))?;
         self.addresses.learn_start(section, start)?;
         self.addresses.learn_load(section, start)?;
         self.cursor = start;
@@ -132,12 +133,12 @@ impl Walk {
 
     // The rows of the chunk that a matcher collects for, if it has one.
     #[tactic(auto, unfolding(wild_plan_spec::specs::Steps::chunk_collected))]
-    fn collect_chunk(&mut self, chunks: &Chunks, chunk: Option<Chunk>) -> Result<(), Fault>
-        ensures { Moves result self.new (chunk_collected (rows_at chunks.now) chunk (state_of self.old)) }
+    fn collect_chunk(&mut self, ground: &Ground<'_>, chunk: Option<Chunk>) -> Result<(), Fault>
+        ensures { Moves result self.new (chunk_collected (shown_ground ground.now) chunk (state_of self.old)) }
     {
         match chunk {
             None => Ok(()),
-            Some(chunk) => self.place_chunk(chunks.rows(chunk)),
+            Some(chunk) => self.place_chunk(ground.chunks.rows(chunk)),
         }
     }
 
@@ -151,18 +152,13 @@ impl Walk {
     }
 
     #[tactic(auto, unfolding(wild_plan_spec::specs::Steps::section_ended_alone))]
-    fn end_section_alone(
-        &mut self,
-        alloc: Global,
-        scope: &Scope<'_>,
-        section: usize,
-    ) -> Result<(), Fault>
-        ensures { Moves result self.new (section_ended_alone (scope_of scope.now) section (state_of self.old)) }
+    fn end_section_alone(&mut self, ground: &Ground<'_>, section: usize) -> Result<(), Fault>
+        ensures { Moves result self.new (section_ended_alone (shown_ground ground.now) section (state_of self.old)) }
     {
         let start = self.addresses.start(section);
         match lowest_sharing(&self.addresses, start, self.cursor, section) {
             None => self.end_section(section),
-            Some(other) => Err(overlap(alloc, scope, other, section)?),
+            Some(other) => Err(overlap(ground, other, section)?),
         }
     }
 
@@ -170,49 +166,49 @@ impl Walk {
     #[tactic(auto, unfolding(wild_plan_spec::specs::Steps::section_ended_after))]
     fn end_section_after(
         &mut self,
-        given: &Given<'_>,
+        ground: &Ground<'_>,
         rest: &[ChunkRow],
         section: usize,
     ) -> Result<(), Fault>
-        ensures { Moves result self.new (section_ended_after (scope_of given.now.scope.now) rest.now section (state_of self.old)) }
+        ensures { Moves result self.new (section_ended_after (shown_ground ground.now) rest.now section (state_of self.old)) }
     {
         self.place_chunk(rest)?;
-        self.end_section_alone(given.alloc, given.scope, section)
+        self.end_section_alone(ground, section)
     }
 
     #[tactic(auto, unfolding(wild_plan_spec::specs::Steps::section_closed))]
     fn close_section(
         &mut self,
-        given: &Given<'_>,
+        ground: &Ground<'_>,
         section: usize,
         rest: Option<Chunk>,
     ) -> Result<(), Fault>
-        ensures { Moves result self.new (section_closed (scope_of given.now.scope.now) (rows_at given.now.chunks.now) section rest (state_of self.old)) }
+        ensures { Moves result self.new (section_closed (shown_ground ground.now) section rest (state_of self.old)) }
     {
         match rest {
-            None => self.end_section_alone(given.alloc, given.scope, section),
-            Some(chunk) => self.end_section_after(given, given.chunks.rows(chunk), section),
+            None => self.end_section_alone(ground, section),
+            Some(chunk) => self.end_section_after(ground, ground.chunks.rows(chunk), section),
         }
     }
+
+    // ---- `. =`
 
     #[tactic(auto, unfolding(wild_plan_spec::specs::Steps::location_set))]
     fn set_location(
         &mut self,
-        alloc: Global,
-        scope: &Scope<'_>,
+        ground: &Ground<'_>,
         place: usize,
         expression: &Expression,
     ) -> Result<(), Fault>
-        ensures { Moves result self.new (location_set (scope_of scope.now) place expression.now (state_of self.old)) }
+        ensures { Moves result self.new (location_set (shown_ground ground.now) place expression.now (state_of self.old)) }
     {
-        self.addresses.learn_dot(place, self.counter)?;
         let evaluator = Evaluator {
-            alloc,
-            scope,
+            alloc: ground.alloc,
+            scope: &ground.scope,
             addresses: &self.addresses,
             statement: place,
         };
-        let address = evaluator.full(&Path::Start, expression, point_of(place))?;
+        let address = evaluator.full(&Path::Start, expression, location_point(place))?;
         self.locations.push(PlacedLocation {
             statement: place,
             address,
@@ -221,51 +217,68 @@ impl Walk {
         Ok(())
     }
 
-    // A place that waits until all are laid out.
-    #[tactic(auto, unfolding(wild_plan_spec::specs::Steps::counter_noted))]
-    fn note_counter(&mut self, place: usize, dot: u64) -> Result<(), Fault>
-        ensures { Moves result self.new (counter_noted place dot (state_of self.old)) }
-    {
-        self.addresses.learn_dot(place, dot)?;
-        Ok(())
-    }
+    // ---- places
 
-    #[tactic(auto, unfolding(wild_plan_spec::specs::Steps::step))]
-    fn step(&mut self, given: &Given<'_>, number: usize, place: &Place<'_>) -> Result<(), Fault>
-        ensures { Moves result self.new (step (scope_of given.now.scope.now) (rows_at given.now.chunks.now) number (shown_place place.now) (state_of self.old)) }
+    // `.` of a place: in the contents of a section its cursor, else the location counter.
+    fn dot_before(&self, place: &Place<'_>) -> u64
+        ensures { result ≡ dot_before (shown_place place.now) (state_of self.now) }
     {
         match *place {
-            Place::SetLocation(expression) => {
-                self.set_location(given.alloc, given.scope, number, expression)
-            }
-            Place::Within(_) => self.note_counter(number, self.counter),
-            Place::Outside(_) => self.note_counter(number, 0),
-            Place::Open(section) => self.open_section(section, given.scope.alignment(section)),
-            Place::Collect(chunk, _) => self.collect_chunk(given.chunks, chunk),
-            Place::Rows(chunk) => self.place_chunk(given.chunks.rows(chunk)),
-            Place::Close(section, rest) => self.close_section(given, section, rest),
+            Place::Collect(Some(_), _) | Place::Rows(_) | Place::Close(_, _) => self.cursor,
+            Place::Collect(None, _)
+            | Place::SetLocation(_)
+            | Place::Wait(_, _)
+            | Place::Open(_)
+            | Place::Idle => self.counter,
+        }
+    }
+
+    // It becomes known before the place has its effect.
+    #[tactic(auto, unfolding(wild_plan_spec::specs::Steps::dot_noted))]
+    fn note_dot(&mut self, number: usize, place: &Place<'_>) -> Result<(), AllocError>
+        ensures { OnOk result (state_of self.new ≡ dot_noted number (shown_place place.now) (state_of self.old)) }
+    {
+        let dot = self.dot_before(place);
+        self.addresses.learn_dot(number, dot)
+    }
+
+    #[tactic(auto, unfolding(wild_plan_spec::specs::Steps::effect))]
+    fn have_effect(
+        &mut self,
+        ground: &Ground<'_>,
+        number: usize,
+        place: &Place<'_>,
+    ) -> Result<(), Fault>
+        ensures { Moves result self.new (effect (shown_ground ground.now) number (shown_place place.now) (state_of self.old)) }
+    {
+        match *place {
+            Place::SetLocation(expression) => self.set_location(ground, number, expression),
+            Place::Wait(_, _) => Ok(()),
+            Place::Open(section) => self.open_section(ground, section),
+            Place::Collect(chunk, _) => self.collect_chunk(ground, chunk),
+            Place::Rows(chunk) => self.place_chunk(ground.chunks.rows(chunk)),
+            Place::Close(section, rest) => self.close_section(ground, section, rest),
             Place::Idle => Ok(()),
         }
     }
-}
 
-/// What all places are laid out by.
-#[derive(Drop)]
-pub struct Given<'a> {
-    pub alloc: Global,
-    /// The sections and the symbols.
-    pub scope: &'a Scope<'a>,
-    pub chunks: &'a Chunks,
+    #[tactic(auto, unfolding(wild_plan_spec::specs::Steps::step))]
+    fn step(&mut self, ground: &Ground<'_>, number: usize, place: &Place<'_>) -> Result<(), Fault>
+        ensures { Moves result self.new (step (shown_ground ground.now) number (shown_place place.now) (state_of self.old)) }
+    {
+        self.note_dot(number, place)?;
+        self.have_effect(ground, number, place)
+    }
 }
 
 /// Lays out the places: what stands after the last one, or the fault of the first that refuses.
-pub fn lay_out(given: &Given<'_>, places: &[Place<'_>]) -> Result<Walk, Fault>
-    ensures laid_out { IfOk result (λ walk. Stands (scope_of given.now.scope.now) (rows_at given.now.chunks.now) (shown_places places.now) (length (shown_places places.now)) (state_of walk)) }
-    ensures refused { IfErr result (λ f. (f ≡ fault.NoMemory) ⊎ Refuses (scope_of given.now.scope.now) (rows_at given.now.chunks.now) (shown_places places.now) f) }
+pub fn lay_out(ground: &Ground<'_>, places: &[Place<'_>]) -> Result<Walk, Fault>
+    ensures laid_out { IfOk result (λ walk. Stands (shown_ground ground.now) (shown_places places.now) (length (shown_places places.now)) (state_of walk)) }
+    ensures refused { IfErr result (λ f. (f ≡ fault.NoMemory) ⊎ Refuses (shown_ground ground.now) (shown_places places.now) f) }
 {
-    let mut walk = Walk::new(given.alloc);
+    let mut walk = Walk::new(ground);
     for (number, place) in places.iter().enumerate() {
-        walk.step(given, number, place)?;
+        walk.step(ground, number, place)?;
     }
     Ok(walk)
 }

@@ -1,9 +1,8 @@
 use Rattle.std.proofs.Common.{◌≡◌, drop}
-use Rattle.wild_eval.specs.Scope.{scope_of}
-use Rattle.wild_eval.specs.Addresses.{known_of}
-use Rattle.wild_plan_spec.specs.Conditions.{conditions}
 use Rattle.wild_fates.specs.Shown.{shown_places}
+use Rattle.wild_plan_spec.specs.Conditions.{conditions}
+use Rattle.wild_plan.specs.End.{known, scope}
 use Rattle.wild_plan.proofs.ends.End.conditions.Given as goal
 
-abbrev pub invariant-loop-index : goal.invariant-loop-index
-invariant-loop-index l = conditions (scope_of l.self.scope.now) (known_of l.self.addresses.now) l.index (shown_places (drop l.index l.places)) ≡ conditions (scope_of l.self.scope.now) (known_of l.self.addresses.now) 0 (shown_places l.places)
+abbrev pub invariant-loop-number : goal.invariant-loop-number
+invariant-loop-number l = conditions (scope l.self) (known l.self) l.number (shown_places (drop l.number l.places)) ≡ conditions (scope l.self) (known l.self) 0 (shown_places l.places)

@@ -1,0 +1,24 @@
+use Rattle.std.proofs.Common.{◌≡◌, ◌∙◌, List, ap, length, subst}
+use Rattle.wild_plan_spec.specs.declared.row.InputRow.{InputRow}
+use Rattle.wild_plan_spec.specs.Facts.{facts_of, facts_from}
+use Rattle.wild_plan.specs.Case.{shown_case}
+use Rattle.wild_plan.specs.Facts.{alignments_in, shown_all}
+use Rattle.wild_plan.proofs.Defined.{fates_counted}
+use Rattle.wild_plan.proofs.ground.find_basis.Goals as goal
+
+pub find_facts-requires : goal.find_facts-requires
+find_facts-requires c = rw (c.as_slice-fates.ensures, c.as_slice-rows.ensures) (fates_counted _ _ c.requires)
+
+pub find_chunks-requires : goal.find_chunks-requires
+find_chunks-requires c = rw (c.as_slice-fates.ensures, c.as_slice-rows.ensures) (fates_counted _ _ c.requires)
+
+pub returns : goal.returns
+returns c =
+    let fates = c.as_slice-fates.ensures ∙ c.requires.fates.fates in
+    let names = c.as_slice-names.ensures ∙ c.requires.fates.names in
+    let facts = rw (c.as_slice-rows.ensures, fates, names) at c.in_ok-facts.ensures in
+    record {
+      facts = facts;
+      alignments = c.in_ok-alignments.ensures ∙ ap (λ fs. alignments_in (shown_all fs)) c.as_slice.ensures ∙ ap alignments_in facts;
+      ordered = rw (c.as_slice-rows.ensures, fates) at c.in_ok-chunks.ensures;
+    }

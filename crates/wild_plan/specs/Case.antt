@@ -1,0 +1,7 @@
+-- A case as it is kept, with its parts borrowed, and what it is.
+use Rattle.wild_plan_spec.specs.Case as spec
+use Rattle.wild_plan.specs.declared.case.Case.{Case}
+
+-- a case, without that it is borrowed
+abbrev pub shown_case : Case → spec.Case
+shown_case c = record { script = c.script.now; tree = c.tree.now; inputs = c.inputs.now; options = c.options.now }
