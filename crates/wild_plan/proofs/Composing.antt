@@ -24,8 +24,10 @@ use Rattle.wild_plan_spec.specs.Scopes.{scope_of}
 use Rattle.wild_plan_spec.specs.Steps.{State}
 use Rattle.wild_plan_spec.specs.Walk.{Stands, Refuses}
 use Rattle.wild_plan_spec.proofs.Unique.{plans_once, plan_or_fault, faults_once}
+use Rattle.wild_walk_laws.proofs.Settled.{settles}
 use Rattle.wild_plan.specs.declared.lists.Lists.{Lists}
 use Rattle.wild_plan.specs.Listed.{IsListed, shown_lists}
+use Rattle.wild_plan.proofs.Sums.{sums_same}
 
 -- ---- cases
 
@@ -57,7 +59,7 @@ module _ (c : Case) (sound : failing (checks c) ≡ None) (order : Chunk → Lis
     module _ (found : List PlacedSymbol) (finishes : final_symbols ground.scope state.known places ≡ Ok found) (fates : List (Option Kept)) (facts : List Facts) (lists : Lists)
         (are_fates : fates ≡ fates_of c.tree c.inputs) (are_facts : facts ≡ facts_of c.tree c.inputs) (l : IsListed c.inputs fates facts state found lists) where
       lists_same : shown_lists c.tree lists ≡ layout c state found
-      lists_same = rw (l.sections, l.placements, l.locations, l.symbols, l.names, are_fates, are_facts) refl
+      lists_same = rw (l.sections, l.placements, l.locations, l.symbols, l.names, are_fates, are_facts, sums_same c state laid) refl
 
       pub lists_fit : Fits c (shown_lists c.tree lists)
       lists_fit = record {
@@ -97,6 +99,7 @@ module _ (script : Bytes) (inputs : InputTable) (options : PlanOptions) (t : Lin
     is = record { script_tree = t; is_tree = is.is; fits = f };
     only = λ other g. plans_once (case t) plan other f (of_tree other g);
     no_fault = λ fault g. ⊎_elim (λ h. no_parse_fault fault h) (λ h. plan_or_fault (case t) plan fault f (fault_of_tree fault h)) g;
+    settled = λ g. settles (case g.script_tree) plan g.fits;
   }
 
   pub the_fault : (fault : Fault) → FaultIn (case t) fault → IsTheFault script inputs options fault

@@ -9,6 +9,7 @@ pub mod Ground
 pub mod Moves
 pub mod End
 pub mod Found
+pub mod Sums
 pub mod Listed
 pub use Rattle.wild_plan_spec.specs.Fit
 pub use Rattle.wild_plan_spec.specs.Layout

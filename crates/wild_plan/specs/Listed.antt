@@ -7,7 +7,7 @@ use Rattle.wild_plan_spec.specs.declared.row.InputTable.{InputTable}
 use Rattle.wild_plan_spec.specs.Facts.{Facts}
 use Rattle.wild_plan_spec.specs.Layout.{Layout, placed_sections, placed_inputs, row_names}
 use Rattle.wild_plan_spec.specs.Steps.{State}
-use Rattle.wild_plan_spec.specs.Symbols.{table_symbols}
+use Rattle.wild_plan.specs.Sums.{wrapped_symbols}
 use Rattle.wild_plan.specs.declared.lists.Lists.{Lists}
 
 -- the plan of a script that has these lists
@@ -20,5 +20,5 @@ pub record IsListed (inputs : InputTable) (fates : List (Option Kept)) (facts : 
   pub sections : lists.sections ≡ placed_sections state.known 0 facts
   pub placements : lists.placements ≡ placed_inputs state.known 0 fates
   pub locations : lists.locations ≡ state.locations
-  pub symbols : lists.symbols ≡ table_symbols state.known fates inputs.symbols ++ found
+  pub symbols : lists.symbols ≡ wrapped_symbols state.known fates inputs.symbols ++ found
   pub names : lists.names ≡ row_names inputs.rows

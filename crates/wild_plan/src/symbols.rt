@@ -7,6 +7,7 @@ ghost use Rattle.wild_eval.specs.Addresses.{known_of};
 ghost use Rattle.wild_plan_spec.specs.Symbols as spec;
 ghost use Rattle.wild_fates.specs.Shown.{shown_place, shown_places, shown_task};
 ghost use Rattle.wild_plan.specs.End.{known, scope};
+ghost use Rattle.wild_plan.specs.Sums.{wrapped_symbol, wrapped_symbols};
 ghost use Rattle.wild_value_spec.specs.Answer.{Returns};
 
 use crate::definitions::symbol_chunk;
@@ -21,7 +22,7 @@ use wild_script::{Expression, ProvideSymbolDefinition};
 
 // ---- of the table
 
-// A symbol of the table, in the chunk of its row. No row passes 2 ^ 64, so the sum does not wrap.
+// A symbol of the table, in the chunk of its row. Where all places are laid out, the sum does not wrap.
 fn push_symbol(
     alloc: Global,
     symbols: &mut Items<PlacedSymbol>,
@@ -29,7 +30,7 @@ fn push_symbol(
     symbol: &SymbolRow,
     chunk: Option<Chunk>,
 ) -> Result<(), NoMemory>
-    ensures { OnOk result (symbols.new ≡ symbols.old ++ spec.table_symbol (known_of addresses.now) symbol.now chunk) }
+    ensures { OnOk result (symbols.new ≡ symbols.old ++ wrapped_symbol (known_of addresses.now) symbol.now chunk) }
 {
     let Some(chunk) = chunk else {
         return Ok(());
@@ -51,7 +52,7 @@ pub fn table_symbols(
     fates: &[Option<Kept>],
     symbols: &[SymbolRow],
 ) -> Result<Items<PlacedSymbol>, NoMemory>
-    ensures { IfOk result (λ placed. placed ≡ spec.table_symbols (known_of addresses.now) fates.now symbols.now) }
+    ensures { IfOk result (λ placed. placed ≡ wrapped_symbols (known_of addresses.now) fates.now symbols.now) }
 {
     let mut placed = Items::new(alloc);
     for symbol in symbols {
