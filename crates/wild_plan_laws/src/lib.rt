@@ -5,8 +5,8 @@ mod laws;
 mod plans;
 
 pub use laws::{
-    all_is_known, end_is_late, rows_do_not_overlap, rows_lie_in_sections,
-    sections_do_not_overlap, sections_stand, sharing_is_lowest,
+    all_is_known, end_is_late, rows_do_not_overlap, rows_lie_in_sections, sections_do_not_overlap,
+    sections_stand, sharing_is_lowest,
 };
 pub use plans::{
     listed_locations_hold, listed_rows_do_not_overlap, listed_rows_stand,
