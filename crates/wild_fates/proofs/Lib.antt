@@ -1,5 +1,4 @@
 pub mod Names
-pub mod Targets
 pub mod Shown
 pub mod Failing
 pub mod Numbered

@@ -1,6 +1,6 @@
 -- Rules whose ids are the numbers of chunks decide what the rules of a script do.
 use Rattle.std.proofs.Common.{◌≡◌, ◌∙◌, ℕ, Bool, true, false, List, [], ◌∷◌, ◌++◌, length, cond, refl, sym, ap, Option, Some, None, Result, Ok, Err}
-use Rattle.std.proofs.lemmas.List.{append_assoc}
+use Rattle.std.proofs.lemmas.List.{append_assoc, map-append}
 use Rattle.std.specs.Prelude.{slice_get}
 use Rattle.std.specs.List.{find}
 use Rattle.wild_glob.specs.declared.piece.Piece.{Piece}
@@ -48,10 +48,6 @@ module _ (chunks : List Chunk) (row : InputRow) where
 
 -- ---- the rules of a script
 
-plan_rules_append : (chunks : List Chunk) (xs ys : List rules.Rule) → plan_rules chunks (xs ++ ys) ≡ plan_rules chunks xs ++ plan_rules chunks ys
-plan_rules_append chunks [] ys = refl
-plan_rules_append chunks (x ∷ xs) ys = ap (λ (zs : List Rule). plan_rule chunks x ∷ zs) (plan_rules_append chunks xs ys)
-
 module _ (chunks : List Chunk) (k : Option ℕ) (q : Option Chunk) (must_keep : Bool) (same : (p : SectionPattern) → outcome_decision chunks (outcome_for k must_keep p) ≡ pattern_decision q p) where
   one_plan_rule : (files : Result (Option (List Piece)) RuleFault) (names : Result SectionNameMatcher RuleFault) (p : SectionPattern)
       → plan_rules chunks (rule_list (making.rule_of files names (outcome_for k must_keep p))) ≡ rule_of files names (pattern_decision q p)
@@ -62,7 +58,7 @@ module _ (chunks : List Chunk) (k : Option ℕ) (q : Option Chunk) (must_keep : 
   patterns_plan_rules : (file : Option Name) (ps : List SectionPattern) → plan_rules chunks (numbered_patterns k must_keep file ps) ≡ pattern_rules q file ps
   patterns_plan_rules file [] = refl
   patterns_plan_rules file (p ∷ ps) =
-      plan_rules_append chunks _ (numbered_patterns k must_keep file ps)
+      map-append (plan_rule chunks) _ (numbered_patterns k must_keep file ps)
       ∙ ap (λ (zs : List Rule). zs ++ plan_rules chunks (numbered_patterns k must_keep file ps)) (one_plan_rule (making.files_of file) (making.names_of p.name) p)
       ∙ ap (λ (zs : List Rule). rule_of (making.files_of file) (making.names_of p.name) (pattern_decision q p) ++ zs) (patterns_plan_rules file ps)
 
@@ -80,7 +76,7 @@ rules_from : (before : List Chunk) (ps : List Place) → plan_rules (before ++ c
 rules_from before [] = refl
 rules_from before (p ∷ ps) =
     ap (λ (cs : List Chunk). plan_rules cs (numbered_rules before (p ∷ ps))) (sym (append_assoc before (chunks_at p) (chunks_in ps)))
-    ∙ plan_rules_append _ (numbered_place before p) (numbered_rules (before ++ chunks_at p) ps)
+    ∙ map-append (plan_rule _) (numbered_place before p) (numbered_rules (before ++ chunks_at p) ps)
     ∙ rw (place_plan_rules before p (chunks_in ps), rules_from (before ++ chunks_at p) ps) refl
 
 -- the rules of places

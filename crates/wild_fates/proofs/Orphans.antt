@@ -1,5 +1,7 @@
 -- The names of sections, each where it stands first.
 use Rattle.std.proofs.Common.{◌≡◌, ◌∙◌, Bool, true, false, not, ◌&&◌, ◌||◌, List, [], ◌∷◌, ◌++◌, length, cond, refl, sym, ap, subst}
+use Rattle.std.proofs.Math.Bool.{and_comm}
+use Rattle.std.proofs.lemmas.List.{append_assoc, append-nil}
 use Rattle.std.specs.List.{list_any, filter}
 use Rattle.std.specs.Str.{bytes_eq}
 use Rattle.std.proofs.lemmas.Slice.Eq.{bytes_eq-Decides}
@@ -16,14 +18,6 @@ use Rattle.wild_fates.specs.Decisions.{with_decision, with_rows, decisions, fate
 
 -- ---- lists
 
-nothing_after : {X : Type 0} (xs : List X) → xs ≡ xs ++ []
-nothing_after [] = refl
-nothing_after (x ∷ xs) = ap (λ ys. x ∷ ys) (nothing_after xs)
-
-one_before : {X : Type 0} (xs : List X) (x : X) (ys : List X) → (xs ++ x ∷ []) ++ ys ≡ xs ++ x ∷ ys
-one_before [] x ys = refl
-one_before (w ∷ xs) x ys = ap (λ zs. w ∷ zs) (one_before xs x ys)
-
 module _ {X : Type 0} (p q : X → Bool) where
   tested_by : (c : Bool) (x : X) (us ws : List X) → filter p us ≡ ws → filter p (cond c (x ∷ us) us) ≡ cond c (cond (p x) (x ∷ ws) ws) ws
   tested_by true x us ws e = rw e refl
@@ -38,14 +32,8 @@ module _ {X : Type 0} (p q : X → Bool) where
   filter_both [] = refl
   filter_both (x ∷ xs) = tested_by (q x) x (filter q xs) (filter (λ y. q y && p y) xs) (filter_both xs) ∙ swapped (p x) (q x) x (filter (λ y. q y && p y) xs)
 
-either_order : (a b : Bool) → (a && b) ≡ (b && a)
-either_order true true = refl
-either_order true false = refl
-either_order false true = refl
-either_order false false = refl
-
 filter_swap : {X : Type 0} (p q : X → Bool) (xs : List X) → filter p (filter q xs) ≡ filter q (filter p xs)
-filter_swap p q xs = filter_both p q xs ∙ filter_agree (λ x. q x && p x) (λ x. p x && q x) (λ x. either_order (q x) (p x)) xs ∙ sym (filter_both q p xs)
+filter_swap p q xs = filter_both p q xs ∙ filter_agree (λ x. q x && p x) (λ x. p x && q x) (λ x. and_comm (q x) (p x)) xs ∙ sym (filter_both q p xs)
 
 -- ---- orphans
 
@@ -81,7 +69,7 @@ name_more true names a bs is = refl
 name_more false names a bs is =
     let tests : filter (lacks (names ++ a ∷ [])) bs ≡ filter (lacks (a ∷ [])) (filter (lacks names) bs) =
     filter_agree (lacks (names ++ a ∷ [])) (λ y. lacks names y && lacks (a ∷ []) y) (lacks_more names a) bs ∙ sym (filter_both (lacks (a ∷ [])) (lacks names) bs) in
-    one_before names a (orphans (names ++ a ∷ []) bs)
+    append_assoc names (a ∷ []) (orphans (names ++ a ∷ []) bs)
     ∙ ap (λ ys. names ++ a ∷ ys) (ap firsts tests ∙ sym (filter_firsts (lacks (a ∷ [])) (filter (lacks names) bs)))
 
 decision_more : (d : Decision) (names : List Name) (a : Name) (bs : List Name) → with_decision names a d ++ orphans (with_decision names a d) bs ≡ names ++ orphans names (asked_by a d ++ bs)
@@ -91,16 +79,12 @@ decision_more (Keep q) names a bs = refl
 
 -- the names that are there after all rows
 pub sections_are : (rules : List Rule) (names : List Name) (rows : List InputRow) → with_rows rules names rows ≡ names ++ orphans names (names_asked rules rows)
-sections_are rules names [] = nothing_after names
+sections_are rules names [] = sym (append-nil names)
 sections_are rules names (row ∷ rows) = sections_are rules (with_decision names row.«section» (decision rules row)) rows ∙ decision_more (decision rules row) names row.«section» (names_asked rules rows)
 
 pub fates_are : (rules : List Rule) (names : List Name) (rows : List InputRow) → fates_by names rows (decisions rules rows) ≡ all_fates rules names rows
 fates_are rules names [] = refl
 fates_are rules names (row ∷ rows) = ap (λ fs. fate_by names row.«section» (decision rules row) ∷ fs) (fates_are rules names rows)
-
-pub decisions_length : (rules : List Rule) (rows : List InputRow) → length (decisions rules rows) ≡ length rows
-decisions_length rules [] = refl
-decisions_length rules (row ∷ rows) = rw (decisions_length rules rows) refl
 
 pub fates_length : (rules : List Rule) (names : List Name) (rows : List InputRow) → length (all_fates rules names rows) ≡ length rows
 fates_length rules names [] = refl

@@ -1,5 +1,5 @@
 -- What is decided of rows one after another, and the names of sections that this makes.
-use Rattle.std.specs.Prelude.{List, [], ◌∷◌, ◌++◌, Option, if◌then◌else◌}
+use Rattle.std.specs.Prelude.{List, [], ◌∷◌, ◌++◌, map, Option, if◌then◌else◌}
 use Rattle.std.specs.List.{list_any}
 use Rattle.wild_numbering.specs.Numbering.{is_named}
 use Rattle.wild_plan_spec.specs.declared.chunk.Kept.{Kept}
@@ -27,8 +27,7 @@ with_rows rules names (row ∷ rows) = with_rows rules (with_decision names row.
 
 -- what is decided of each row
 abbrev pub decisions : List Rule → List InputRow → List Decision
-decisions rules [] = []
-decisions rules (row ∷ rows) = decision rules row ∷ decisions rules rows
+decisions rules rows = map (decision rules) rows
 
 -- the fates of rows of which this is decided
 abbrev pub fates_by : List Name → List InputRow → List Decision → List (Option Kept)

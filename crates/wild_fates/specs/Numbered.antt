@@ -1,5 +1,6 @@
 -- Rules whose ids are the numbers of chunks, and what they decide.
-use Rattle.std.specs.Prelude.{ℕ, Bool, List, [], ◌∷◌, ◌++◌, length, slice_get, Option, Some, None, Result, Ok, Err}
+use Rattle.std.specs.Prelude.{ℕ, Bool, List, [], ◌∷◌, ◌++◌, length, map, slice_get, Option, Some, None, Result, Ok, Err}
+use Rattle.std.specs.List.{flat_map}
 use Rattle.std.specs.Option.{option_to_list}
 use Rattle.wild_rules.specs.declared.fault.RuleFault.{RuleFault}
 use Rattle.wild_rules.specs.declared.outcome.SectionRuleOutcome.{SectionRuleOutcome}
@@ -32,8 +33,7 @@ plan_rule chunks rule = record { names = rule.matcher; files = rule.file; decisi
 
 -- rules as plans see them
 abbrev pub plan_rules : List Chunk → List rules.Rule → List Rule
-plan_rules chunks [] = []
-plan_rules chunks (r ∷ rs) = plan_rule chunks r ∷ plan_rules chunks rs
+plan_rules chunks rs = map (plan_rule chunks) rs
 
 -- ---- the rules that are made
 
@@ -74,5 +74,4 @@ numbered_rules before (p ∷ ps) = numbered_place before p ++ numbered_rules (be
 
 -- the chunks of all matchers
 abbrev pub chunks_in : List Place → List Chunk
-chunks_in [] = []
-chunks_in (p ∷ ps) = chunks_at p ++ chunks_in ps
+chunks_in ps = flat_map chunks_at ps

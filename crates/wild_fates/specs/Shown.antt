@@ -1,5 +1,5 @@
 -- Statements and places as they are kept, with their parts borrowed, and what they are.
-use Rattle.std.specs.Prelude.{List, [], ◌∷◌}
+use Rattle.std.specs.Prelude.{List, map}
 use Rattle.wild_plan_spec.specs.Statements as statements
 use Rattle.wild_plan_spec.specs.Places as spec
 use Rattle.wild_fates.specs.declared.statements.Statement.{Statement}
@@ -16,8 +16,7 @@ shown_statement (Outer c) = statements.Outer c.now
 
 -- the same of each
 abbrev pub shown_statements : List Statement → List statements.Statement
-shown_statements [] = []
-shown_statements (s ∷ ss) = shown_statement s ∷ shown_statements ss
+shown_statements statements = map shown_statement statements
 
 -- a task, without that it is borrowed
 abbrev pub shown_task : Task → spec.Task
@@ -38,5 +37,4 @@ shown_place Idle = spec.Idle
 
 -- the same of each
 abbrev pub shown_places : List Place → List spec.Place
-shown_places [] = []
-shown_places (p ∷ ps) = shown_place p ∷ shown_places ps
+shown_places places = map shown_place places

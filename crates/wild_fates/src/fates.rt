@@ -119,7 +119,7 @@ pub struct Fates<'a> {
 }
 
 /// The fates of rows among these sections of a script and orphans after them. Fails where memory runs out.
-#[tactic(auto, using(crate::proofs::Orphans::sections_are, crate::proofs::Orphans::fates_are, crate::proofs::Orphans::decisions_length))]
+#[tactic(auto, using(crate::proofs::Orphans::sections_are, crate::proofs::Orphans::fates_are))]
 pub fn find_fates<'a>(
     alloc: Global,
     own: SectionNames<'a>,

@@ -48,7 +48,6 @@ pub enum Place<'a> {
     Idle,
 }
 
-#[tactic(auto, using(crate::proofs::Shown::shown_append))]
 fn push<'a>(places: &mut Items<Place<'a>>, place: Place<'a>) -> Result<(), NoMemory>
     ensures { OnOk result (shown_places places.new ≡ shown_places places.old ++ shown_place place.entry ∷ []) }
 {

@@ -40,7 +40,6 @@ impl<'a> SectionNames<'a> {
     }
 
     /// The same with a section after the others. Fails where memory runs out.
-    #[tactic(auto, using(crate::proofs::Targets::targets_append))]
     pub fn with(self, alloc: Global, name: &'a Name) -> Result<SectionNames<'a>, NoMemory>
         ensures { IfOk result (λ names. names ≡ self.entry ++ name.now ∷ []) }
     {

@@ -19,7 +19,6 @@ pub enum Statement<'a> {
     Outer(&'a Command),
 }
 
-#[tactic(auto, using(crate::proofs::Shown::statements_append))]
 fn push<'a>(statements: &mut Items<Statement<'a>>, statement: Statement<'a>) -> Result<(), NoMemory>
     ensures { OnOk result (shown_statements statements.new ≡ shown_statements statements.old ++ shown_statement statement.entry ∷ []) }
 {
@@ -74,7 +73,6 @@ pub fn is_discard(section: &Section) -> bool
 }
 
 // Puts the section that a statement is after the others, if it is one.
-#[tactic(auto, using(crate::proofs::Targets::targets_append))]
 fn push_section<'a>(
     sections: &mut Items<&'a Section>,
     statement: &Statement<'a>,

@@ -2,7 +2,7 @@ use Rattle.std.proofs.Common.{◌≡◌, ◌+◌, ◌++◌, drop, arith}
 use Rattle.std.proofs.lemmas.Grind.{common_steps}
 use Rattle.wild_plan_spec.specs.Checks.{checks_at, place_checks, failing}
 use Rattle.wild_fates.specs.Shown.{shown_places, shown_place}
-use Rattle.wild_fates.proofs.Failing.{step_fails, exits}
+use Rattle.wild_fates.proofs.Failing.{wanted_here, exits}
 use Rattle.wild_fates.proofs.rules.number_rules.Goals as goal
 
 pub returns-in_err-push_place-clause-passes : goal.returns-in_err-push_place-clause-passes
@@ -12,4 +12,4 @@ returns-in_err-push_place-clause-passes c =
     let rest = place_checks (n + 1) (shown_places (drop (n + 1) c.args.places.now)) in
     let all = place_checks 0 (shown_places c.args.places.now) in
     let same : failing (here ++ rest) ≡ failing all = grind (arith, common_steps) in
-    exits _ _ c.from_residual.ensures.1 (step_fails here rest all same _ c.in_err-push_place.ensures.passes.err)
+    exits _ _ c.from_residual.ensures.1 (wanted_here here rest all _ same c.in_err-push_place.ensures.passes.err)
