@@ -81,7 +81,7 @@ impl End<'_> {
 
     // The conditions of the places, in text order.
     fn conditions(&self, places: &[Place<'_>]) -> Result<(), Fault>
-        ensures { Gives result (spec.conditions (scope self.now) (known self.now) 0 (shown_places places.now)) }
+        ensures { Returns result (spec.conditions (scope self.now) (known self.now) 0 (shown_places places.now)) }
     {
         for (number, place) in places.iter().enumerate() {
             self.place_holds(number, place)?;
