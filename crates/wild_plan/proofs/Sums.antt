@@ -41,8 +41,10 @@ module _ (c : Case) (state : State) (f : IsLaid c state) where
   sums_from n [] same = refl
   sums_from n (s ∷ ss) same =
       let z : n ≡ n + 0 = omega arith in
-      rw (one_same n s (symbol_chunk fates s) (ap (slice_get c.inputs.symbols) z ∙ same 0) refl,
-          sums_from (n + 1) ss (λ i. let y : n + 1 + i ≡ n + suc i = omega arith in rw y (same (suc i)))) refl
+      rw (
+        one_same n s (symbol_chunk fates s) (ap (slice_get c.inputs.symbols) z ∙ same 0) refl,
+        sums_from (n + 1) ss (λ i. let y : n + 1 + i ≡ n + suc i = omega arith in rw y (same (suc i))),
+      ) refl
 
   pub sums_same : wrapped_symbols state.known fates c.inputs.symbols ≡ table_symbols state.known fates c.inputs.symbols
   sums_same = sums_from 0 c.inputs.symbols (λ i. let z : 0 + i ≡ i = omega arith in rw z refl)

@@ -10,7 +10,7 @@ use Rattle.wild_plan.proofs.pipeline.lists_on.Goals as goal
 
 pub returns-in_err-walk-clause-refused : goal.returns-in_err-walk-clause-refused
 returns-in_err-walk-clause-refused c =
-    let p = err_from_is_err_and c.from_residual-in_err-walk.result c.from_residual-in_err-walk.ensures.1 in
+    let p = err_from_is_err_and c.from_residual.result c.from_residual.ensures.1 in
     let checked = c.requires.checked in
     let basis = c.requires.basis in
     let places = ap shown_places c.as_slice-places.ensures ∙ checked.fates.places in
