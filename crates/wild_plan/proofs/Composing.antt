@@ -1,5 +1,5 @@
 -- What the parts of a plan answer makes what the whole answers.
-use Rattle.std.proofs.Common.{◌≡◌, ◌∙◌, ◌++◌, Option, List, [], ◌∷◌, length, None, Ok, Err, refl, sym, ap, subst, inl, inr, ⊎_elim}
+use Rattle.std.proofs.Common.{◌≡◌, ◌∙◌, Option, List, length, None, Ok, Err, refl, sym, ap, subst, inl, inr, ⊎_elim}
 use Rattle.wild_names.specs.declared.fault.Fault.{Fault}
 use Rattle.wild_names.specs.declared.fault.Fault.TheVariants.{Syntax, UnclosedComment, UnsupportedNestedSort, TooDeep}
 use Rattle.wild_script.specs.Tree.{Bytes, tree, IsTree, IsParseFault}

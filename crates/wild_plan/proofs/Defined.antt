@@ -6,7 +6,7 @@ use Rattle.wild_fates.specs.Shown.{shown_places}
 use Rattle.wild_fates.proofs.Orphans.{fates_length}
 use Rattle.wild_names.specs.declared.fault.Fault.TheVariants.{DuplicateSymbol}
 use Rattle.wild_plan_spec.specs.Case.{Case}
-use Rattle.wild_plan_spec.specs.Checks.{Check, name_checks, support_checks, symbol_name_checks}
+use Rattle.wild_plan_spec.specs.Checks.{name_checks, support_checks, symbol_name_checks}
 use Rattle.wild_plan_spec.specs.Definitions.{SymbolEntry, entry_names, firm_entries, provided_entries}
 use Rattle.wild_plan_spec.specs.Fates.{fates_of}
 use Rattle.wild_plan_spec.specs.Names.{Name}

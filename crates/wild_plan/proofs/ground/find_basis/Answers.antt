@@ -1,7 +1,4 @@
-use Rattle.std.proofs.Common.{◌≡◌, ◌∙◌, List, ap, length, subst}
-use Rattle.wild_plan_spec.specs.declared.row.InputRow.{InputRow}
-use Rattle.wild_plan_spec.specs.Facts.{facts_of, facts_from}
-use Rattle.wild_plan.specs.Case.{shown_case}
+use Rattle.std.proofs.Common.{◌∙◌, ap}
 use Rattle.wild_plan.specs.Facts.{alignments_in, shown_all}
 use Rattle.wild_plan.proofs.Defined.{fates_counted}
 use Rattle.wild_plan.proofs.ground.find_basis.Goals as goal

@@ -3,8 +3,6 @@ use Rattle.std.proofs.Common.{ap, inl, inr, ⊎_elim, ◌∙◌}
 use Rattle.std.proofs.lemmas.Result.{err_from_is_err_and}
 use Rattle.wild_fates.specs.Shown.{shown_places}
 use Rattle.wild_plan.specs.Case.{shown_case}
-use Rattle.wild_plan.specs.Chunks.{rows_at}
-use Rattle.wild_plan.specs.Moves.{state_of}
 use Rattle.wild_plan.proofs.Composing.{walk_refused, end_refused, lists_fit}
 use Rattle.wild_plan.proofs.pipeline.lists_on.Goals as goal
 
