@@ -13,7 +13,6 @@ ghost use Rattle.wild_plan_spec.specs.Fit.{EndFault, IsLaid};
 ghost use Rattle.wild_plan_spec.specs.Names.{Name};
 ghost use Rattle.wild_plan_spec.specs.Steps.{State};
 ghost use Rattle.wild_value_spec.specs.Known.{Known, Address};
-ghost use Rattle.wild_walk_laws.specs.Holding.{IsKnown};
 
 /// The section that is named where a section overlaps earlier ones is the one that starts lowest, the first of them where
 /// several do, and none is named just where none shares an address.

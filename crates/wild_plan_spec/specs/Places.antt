@@ -1,5 +1,5 @@
 -- The places of a script, as one numbered list.
-use Rattle.std.specs.Prelude.{ℕ, ◌+◌, List, [], ◌∷◌, ◌++◌, length, if◌then◌else◌, Option, Some, None}
+use Rattle.std.specs.Prelude.{ℕ, ◌+◌, List, [], ◌∷◌, ◌++◌, if◌then◌else◌, Option, Some, None}
 use Rattle.wild_expression_tree.specs.declared.tree.AssertCommand.{AssertCommand}
 use Rattle.wild_expression_tree.specs.declared.tree.Expression.{Expression}
 use Rattle.wild_script.specs.declared.tree.LinkerScript.{LinkerScript}
@@ -16,7 +16,7 @@ use Rattle.wild_plan_spec.specs.declared.chunk.Chunk.{Chunk}
 use Rattle.wild_plan_spec.specs.declared.place.Where.{Where}
 use Rattle.wild_plan_spec.specs.declared.place.Where.TheVariants.{Outermost, Between}
 use Rattle.wild_plan_spec.specs.Names.{Name}
-use Rattle.wild_plan_spec.specs.Statements.{Statement, Inner, Outer, is_discard, statements_of, sections_of}
+use Rattle.wild_plan_spec.specs.Statements.{Statement, Inner, Outer, is_discard, statements_of}
 
 -- what is evaluated once all places are laid out
 pub data Task : Type 0 where

@@ -7,7 +7,6 @@ use Rattle.wild_rules.specs.declared.matcher.SectionNameMatcher.{SectionNameMatc
 use Rattle.wild_rules.specs.Making.{names_of, files_of}
 use Rattle.wild_rules.specs.Taking.{takes_name, takes_file}
 use Rattle.wild_script.specs.declared.tree.LinkerScript.{LinkerScript}
-use Rattle.wild_script.specs.declared.tree.Matcher.{Matcher}
 use Rattle.wild_script.specs.declared.tree.SectionPattern.{SectionPattern}
 use Rattle.wild_plan_spec.specs.declared.chunk.Chunk.{Chunk}
 use Rattle.wild_plan_spec.specs.declared.chunk.Decision.{Decision}

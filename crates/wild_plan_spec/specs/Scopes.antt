@@ -1,5 +1,5 @@
 -- What a script and its table say of sections and symbols.
-use Rattle.std.specs.Prelude.{ℕ, List}
+use Rattle.std.specs.Prelude.{List}
 use Rattle.wild_numbering.specs.Numbering.{number_of}
 use Rattle.wild_script.specs.Tree.{Bytes}
 use Rattle.wild_value_spec.specs.Scope.{Scope, line_of}

@@ -1,5 +1,5 @@
 -- What the statements of a plan's script are worth over its finished table.
-use Rattle.std.proofs.Common.{◌≡◌, ◌≢◌, ◌∙◌, ℕ, zero, suc, ◌+◌, ◌==◌, Bool, true, false, cond, List, [], ◌∷◌, ◌++◌, Option, Some, None, Result, Ok, Err, refl, sym, ap, arith}
+use Rattle.std.proofs.Common.{◌≡◌, ◌≢◌, ◌∙◌, ℕ, zero, suc, ◌+◌, ◌-◌, ◌==◌, Bool, true, false, cond, List, [], ◌∷◌, ◌++◌, Option, Some, None, Result, Ok, Err, refl, sym, ap, arith}
 use Rattle.std.specs.Prelude.{slice_get}
 use Rattle.std.specs.Option.{option_to_list}
 use Rattle.std.proofs.lemmas.Bool.{eq-eqb}
@@ -11,7 +11,7 @@ use Rattle.wild_script.specs.declared.tree.ProvideSymbolDefinition.{ProvideSymbo
 use Rattle.wild_value_spec.specs.declared.value.Value.{Value}
 use Rattle.wild_value_spec.specs.Answer.{◌>>=◌}
 use Rattle.wild_value_spec.specs.Known.{Known}
-use Rattle.wild_value_spec.specs.Marks.{over}
+use Rattle.wild_value_spec.specs.Marks.{max_height, over}
 use Rattle.wild_value_spec.specs.Scope.{Scope, definition_of}
 use Rattle.wild_value_spec.specs.Value.{assert_statement, assert_value, full_value, value}
 use Rattle.wild_plan_spec.specs.declared.place.Where.{Where}
@@ -111,7 +111,7 @@ module _ (scope : Scope) (known : Known) where
   condition_nonzero : (i : ℕ) (w : Where) (k : AssertCommand) (v : Value) → assert_statement scope i known k (task_point i w) ≡ Ok v → v.number ≢ 0
   unfolding assert_statement assert_value
   condition_nonzero i w k v e =
-      let first = bind_ok (value scope i known 1023 [] k.expression (task_point i w)) _ v e in
+      let first = bind_ok (value scope i known (max_height - 1) [] k.expression (task_point i w)) _ v e in
       nonzero_by (first.0.number == 0) first.0 (AssertFailed (scope.line k.at) k.message) v refl first.2
 
 -- ---- plans
