@@ -11,7 +11,7 @@ use sqlite_items::Items;
 use std::alloc::Global;
 use wild_base::{Name, NoMemory};
 use wild_plan_spec::{Chunk, Where};
-use wild_script::{
+use wild_script_tree::{
     AssertCommand, Command, ContentsCommand, Expression, Matcher, ProvideSymbolDefinition, Section,
     SectionCommand,
 };

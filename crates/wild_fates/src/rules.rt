@@ -21,7 +21,7 @@ use std::marker::Model;
 use wild_base::{Fault, Name, NoMemory, OutputSectionId};
 use wild_plan_spec::{Chunk, Decision, InputRow, Kept};
 use wild_rules::{RuleFault, SectionOutputInfo, SectionRule, SectionRuleOutcome, SectionRules};
-use wild_script::{Matcher, SectionPattern};
+use wild_script_tree::{Matcher, SectionPattern};
 
 /// The least number of a chunk that no id is left for.
 const MAX_CHUNKS: usize = 0xffff_ffff;

@@ -18,7 +18,7 @@ use sqlite_items::Items;
 use std::alloc::Global;
 use wild_base::{Fault, NoMemory};
 use wild_plan_spec::{InputRow, InputTable, Kept};
-use wild_script::{LinkerScript, Section};
+use wild_script_tree::{LinkerScript, Section};
 
 /// What a script is taken apart into.
 #[derive(Drop)]

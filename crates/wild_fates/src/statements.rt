@@ -8,7 +8,7 @@ ghost use Rattle.wild_fates.specs.Shown.{shown_statement, shown_statements};
 use sqlite_items::Items;
 use std::alloc::Global;
 use wild_base::NoMemory;
-use wild_script::{Command, LinkerScript, Section, SectionCommand};
+use wild_script_tree::{Command, LinkerScript, Section, SectionCommand};
 
 /// A statement of a script.
 #[derive(Clone, Copy, Debug)]

@@ -61,14 +61,14 @@ module _ (known : Known) (fates : List (Option Kept)) where
 
 module _ (c : Case) (state : State) (f : IsLaid c state) where
   abbrev sections : List PlacedSection
-  sections = placed_sections state.known 0 (facts_of c.tree c.inputs)
+  sections = placed_sections state.known 0 (facts_of c.commands c.inputs)
 
   -- section s, of this name
   abbrev place_of : ℕ → Name → PlacedSection
   place_of s x = placed_section state.known s (facts_named c s x)
 
-  sections_are : (s : ℕ) → slice_get sections s ≡ option_map (placed_section state.known s) (slice_get (facts_of c.tree c.inputs) s)
-  sections_are s = each_at (λ n facts. placed_section state.known n facts) (λ n facts. placed_sections state.known n facts) (λ n. refl) (λ n x xs. refl) (facts_of c.tree c.inputs) s
+  sections_are : (s : ℕ) → slice_get sections s ≡ option_map (placed_section state.known s) (slice_get (facts_of c.commands c.inputs) s)
+  sections_are s = each_at (λ n facts. placed_section state.known n facts) (λ n facts. placed_sections state.known n facts) (λ n. refl) (λ n x xs. refl) (facts_of c.commands c.inputs) s
 
   section_at : (s : ℕ) (x : Name) → slice_get (names c) s ≡ Some x → slice_get sections s ≡ Some (place_of s x)
   section_at s x there = sections_are s ∙ ap (option_map (placed_section state.known s)) (facts_are c s ∙ ap (option_map (facts_named c s)) there)
@@ -93,7 +93,7 @@ module _ (c : Case) (state : State) (f : IsLaid c state) where
 
   listed_is : (s : ℕ) (place : PlacedSection) → slice_get sections s ≡ Some place → IsPlace s place
   listed_is s place there =
-      let placed = made_of (placed_section state.known s) (slice_get (facts_of c.tree c.inputs) s) place (sym (sections_are s) ∙ there) in
+      let placed = made_of (placed_section state.known s) (slice_get (facts_of c.commands c.inputs) s) place (sym (sections_are s) ∙ there) in
       let named = made_of (facts_named c s) (slice_get (names c) s) placed.0 (sym (facts_are c s) ∙ placed.1) in
       subst (IsPlace s) (ap (placed_section state.known s) named.2 ∙ placed.2) (place_is s named.0 named.1)
 

@@ -137,9 +137,9 @@ module _ (c : Case) (state : State) (f : IsLaid c state) where
         listed = ap (λ (xs : List PlacedLocation). slice_get xs (length (dot_noted i (SetLocation e) st).locations)) on.locations.1 ∙ at_seam (dot_noted i (SetLocation e) st).locations on.locations.0 _;
       })
 
-pub locations_hold : (c : Case) (state : State) → IsLaid c state → (i : ℕ) (e : Expression) → slice_get (places_of c.tree c.inputs) i ≡ Some (SetLocation e) → LaidLocationHolds c state i e
+pub locations_hold : (c : Case) (state : State) → IsLaid c state → (i : ℕ) (e : Expression) → slice_get (places_of c.commands c.inputs) i ≡ Some (SetLocation e) → LaidLocationHolds c state i e
 locations_hold c state f i e there =
-    let places = places_of c.tree c.inputs in
+    let places = places_of c.commands c.inputs in
     let low : i < length places = slice_get_within places i (SetLocation e) there in
     location_holds c state f i e (f.stands.before i) (f.stands.before (i + 1)) (f.stands.each i (SetLocation e) low there)
     (to_end (ground_of c f.order) places (length places) state f.stands (i + 1) (omega (arith, low)))

@@ -3,12 +3,12 @@ use Rattle.std.proofs.Common.{◌≡◌, ◌∙◌, ℕ, suc, ◌+◌, ◌<◌, 
 use Rattle.std.specs.Prelude.{IfSome}
 use Rattle.std.proofs.lemmas.Bool.{cases_lt}
 use Rattle.std.proofs.lemmas.List.{length-append}
-use Rattle.wild_script.specs.declared.tree.Command.TheVariants as command
-use Rattle.wild_script.specs.declared.tree.ContentsCommand.{ContentsCommand}
-use Rattle.wild_script.specs.declared.tree.ContentsCommand.TheVariants.{Matcher as OfMatcher}
-use Rattle.wild_script.specs.declared.tree.LinkerScript.{LinkerScript}
-use Rattle.wild_script.specs.declared.tree.Section.{Section}
-use Rattle.wild_script.specs.declared.tree.SectionCommand.TheVariants as inner
+use Rattle.wild_script_tree.specs.declared.tree.Command.TheVariants as command
+use Rattle.wild_script_tree.specs.declared.tree.ContentsCommand.{ContentsCommand}
+use Rattle.wild_script_tree.specs.declared.tree.ContentsCommand.TheVariants.{Matcher as OfMatcher}
+use Rattle.wild_script_tree.specs.declared.tree.Command.{Command}
+use Rattle.wild_script_tree.specs.declared.tree.Section.{Section}
+use Rattle.wild_script_tree.specs.declared.tree.SectionCommand.TheVariants as inner
 use Rattle.wild_plan_spec.specs.declared.chunk.Chunk.{Chunk}
 use Rattle.wild_plan_spec.specs.declared.row.InputTable.{InputTable}
 use Rattle.wild_plan_spec.specs.Fates.{names_of, orphans_of, section_names}
@@ -129,7 +129,7 @@ names_length : (xs : List Section) → length (names_of xs) ≡ length xs
 names_length [] = refl
 names_length (x ∷ xs) = ap suc (names_length xs)
 
-module _ (t : LinkerScript) (inputs : InputTable) where
+module _ (t : List Command) (inputs : InputTable) where
   all_bring : Brings 0 (places_of t inputs) (length (section_names t inputs))
   all_bring =
       let own = length (sections_of t) in

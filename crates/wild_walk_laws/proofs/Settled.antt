@@ -7,7 +7,7 @@ use Rattle.wild_names.specs.declared.fault.Fault.{Fault}
 use Rattle.wild_names.specs.declared.fault.Fault.TheVariants.{AssertFailed}
 use Rattle.wild_expression_tree.specs.declared.tree.AssertCommand.{AssertCommand}
 use Rattle.wild_expression_tree.specs.declared.tree.Expression.{Expression}
-use Rattle.wild_script.specs.declared.tree.ProvideSymbolDefinition.{ProvideSymbolDefinition}
+use Rattle.wild_script_tree.specs.declared.tree.ProvideSymbolDefinition.{ProvideSymbolDefinition}
 use Rattle.wild_value_spec.specs.declared.value.Value.{Value}
 use Rattle.wild_value_spec.specs.Answer.{◌>>=◌}
 use Rattle.wild_value_spec.specs.Known.{Known}
@@ -124,7 +124,7 @@ module _ (c : Case) (plan : Layout) (f : Fits c plan) where
   known = f.state.known
 
   abbrev places : List Place
-  places = places_of c.tree c.inputs
+  places = places_of c.commands c.inputs
 
   final : (symbols scope known 0 places ≡ Ok f.found) × (conditions scope known 0 places ≡ Ok tt)
   final =
@@ -141,7 +141,7 @@ module _ (c : Case) (plan : Layout) (f : Fits c plan) where
   symbol_settles i w name e hidden worth = record {
     address = worth.address;
     worth = worth.worth;
-    listed = rw f.listed (listed_after (script_symbol name hidden worth.address) (table_symbols known (fates_of c.tree c.inputs) c.inputs.symbols) f.found worth.listed);
+    listed = rw f.listed (listed_after (script_symbol name hidden worth.address) (table_symbols known (fates_of c.commands c.inputs) c.inputs.symbols) f.found worth.listed);
   }
 
   assignment_settles : (i : ℕ) (w : Where) (name : Name) (e : Expression) → slice_get places i ≡ Some (Wait w (Assign name e)) → name ≢ [] → SymbolSettles c known plan i w name e false

@@ -79,6 +79,6 @@ module _ (ground : Ground) (Holds : Zone → State → Type 0) where
 
 -- over all places of a case
 pub laid_walked : (c : Case) (state : State) (f : IsLaid c state) (Holds : Zone → State → Type 0) → Passes (ground_of c f.order) Holds
-    → Holds (Free 0) (first_state (ground_of c f.order)) → Holds (Free (length (section_names c.tree c.inputs))) state
+    → Holds (Free 0) (first_state (ground_of c f.order)) → Holds (Free (length (section_names c.commands c.inputs))) state
 laid_walked c state f Holds passes first =
-    walked (ground_of c f.order) Holds passes (places_of c.tree c.inputs) state f.stands (Free 0) (Free (length (section_names c.tree c.inputs))) (places_nest c.tree c.inputs) first
+    walked (ground_of c f.order) Holds passes (places_of c.commands c.inputs) state f.stands (Free 0) (Free (length (section_names c.commands c.inputs))) (places_nest c.commands c.inputs) first

@@ -1,7 +1,7 @@
 -- The parts of a script and its table, in their order.
 use Rattle.std.proofs.Common.{◌∙◌, [], List, ap}
 use Rattle.wild_names.specs.declared.fault.Fault.TheVariants.{DuplicateSection}
-use Rattle.wild_script.specs.declared.tree.LinkerScript.{LinkerScript}
+use Rattle.wild_script_tree.specs.declared.tree.Command.{Command}
 use Rattle.wild_plan_spec.specs.Checks.{Check, place_checks, name_checks}
 use Rattle.wild_plan_spec.specs.Fates.{names_of}
 use Rattle.wild_plan_spec.specs.Places.{script_places}
@@ -13,10 +13,10 @@ use Rattle.wild_fates.proofs.Failing.{wanted_before, wanted_after, exits}
 use Rattle.wild_fates.proofs.Parts.{are_fates}
 use Rattle.wild_fates.proofs.script_fates.decide_fates.Goals as goal
 
-abbrev of_places : LinkerScript → List Check
+abbrev of_places : List Command → List Check
 of_places t = place_checks 0 (script_places t)
 
-abbrev of_names : LinkerScript → List Check
+abbrev of_names : List Command → List Check
 of_names t = name_checks DuplicateSection [] (names_of (sections_of t))
 
 pub returns-in_err-rules-clause-passes : goal.returns-in_err-rules-clause-passes
