@@ -1,6 +1,6 @@
 //! A cursor over bytes.
 
-ghost use Rattle.std.specs.Prelude.{◌≡◌, ◌≤◌, ◌<◌, ◌+◌, ◌^◌, length, true, OnOk};
+ghost use Rattle.std.specs.Prelude.{◌≡◌, ◌≤◌, ◌<◌, ◌+◌, ◌^◌, length, true, false, OnOk};
 ghost use Rattle.wild_reading.specs.Position.{ahead, is_mark, IsPaid, IsMarked};
 ghost use Rattle.wild_reading.specs.Bytes as spec;
 ghost use Rattle.wild_reading.specs.Lex as lexis;
@@ -8,6 +8,7 @@ ghost use Rattle.wild_reading.specs.Reader as readers;
 ghost use Rattle.wild_reading.specs.Family as family;
 ghost use Rattle.wild_reading.specs.Only.{Answers, IsOnly, Enters, Leaves};
 
+use crate::ahead::{quoted_at, run_at};
 use crate::classes::{Class, begins_run, run_end};
 use crate::lex;
 use crate::skipping::gap_end;
@@ -59,6 +60,16 @@ impl<'a> Model for Token<'a> {
 }
 
 impl<'a> Token<'a> {
+    /// A token without quotes.
+    pub fn plain(content: &'a [u8]) -> Token<'a>
+        ensures { result ≡ record { content = content.now; quoted = false } }
+    {
+        Token {
+            content,
+            quoted: false,
+        }
+    }
+
     /// A token in quotes, of the bytes between them.
     pub fn quoted(content: &'a [u8]) -> Token<'a>
         ensures { result ≡ record { content = content.now; quoted = true } }
@@ -236,35 +247,34 @@ impl<'a> Cursor<'a> {
     }
 
     /// Reads the longest run of the class, of one byte at least.
-    #[tactic(auto, using(crate::proofs::Readers::leaves, crate::proofs::Leaves::moves), unfolding(crate::specs::Lex::run, crate::specs::Lex::run_at))]
+    #[tactic(auto, using(crate::proofs::Readers::leaves, crate::proofs::Leaves::moves), unfolding(crate::specs::Lex::run))]
     pub fn run(&mut self, class: Class) -> Result<Token<'a>, Stop>
         ensures read { Answers (lexis.run class) self.old self.new result }
         ensures shorter { OnOk result (ahead self.new < ahead self.old) }
     {
-        let end = run_end(self.bytes, self.at, class);
-        if end == self.at {
-            return Err(Stop::Syntax { position: self.at });
+        match run_at(self.bytes, self.at, class) {
+            Some((token, end)) => {
+                self.at = end;
+                Ok(token)
+            }
+            None => Err(Stop::Syntax { position: self.at }),
         }
-        let content = &self.bytes[self.at..end];
-        self.at = end;
-        Ok(Token {
-            content,
-            quoted: false,
-        })
     }
 
     // What is in quotes, and the quote that closes.
-    #[tactic(auto, using(crate::proofs::Readers::leaves, crate::proofs::Leaves::moves), unfolding(crate::specs::Lex::quoted, crate::specs::Lex::quoted_at))]
+    #[tactic(auto, using(crate::proofs::Readers::leaves, crate::proofs::Leaves::moves), unfolding(crate::specs::Lex::quoted))]
     fn quoted(&mut self) -> Result<Token<'a>, Stop>
         ensures { Answers lexis.quoted self.old self.new result }
     {
-        let end = run_end(self.bytes, self.at, Class::Quotes);
-        if !lex::begins(self.bytes, end, b'"') {
-            return Err(Stop::Syntax { position: end });
+        match quoted_at(self.bytes, self.at) {
+            Some((token, end)) => {
+                self.at = end;
+                Ok(token)
+            }
+            None => Err(Stop::Syntax {
+                position: run_end(self.bytes, self.at, Class::Quotes),
+            }),
         }
-        let content = &self.bytes[self.at..end];
-        self.at = end + 1;
-        Ok(Token::quoted(content))
     }
 
     #[tactic(auto, using(crate::proofs::Readers::reading), unfolding(crate::specs::Lex::quoted_token))]
