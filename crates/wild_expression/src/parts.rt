@@ -14,7 +14,7 @@ use wild_expression_words::Level;
 use wild_reading::{Cursor, Stop};
 
 /// Reads an expression and the white after it.
-#[tactic(auto, using(wild_reading::proofs::Readers::reading), unfolding(crate::specs::Parts::expression))]
+#[tactic(auto, using(wild_reading::proofs::Readers::reading), unfolding(crate::specs::Parts::expression, crate::specs::Grammar::value_by, crate::specs::Grammar::value))]
 pub fn expression(cursor: &mut Cursor<'_>, alloc: Global) -> Result<Boxed<Expression>, Stop>
     ensures read { Answers (spec.expression first_grammar) cursor.old cursor.new result }
     ensures shorter { OnOk result (ahead cursor.new < ahead cursor.old) }

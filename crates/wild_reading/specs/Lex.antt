@@ -146,6 +146,20 @@ symbol c = do
   byte c
   gap
 
+-- after these bytes, if they are ahead
+unfoldable pub after_text : List ℕ → Bytes → ℕ → Option ℕ
+after_text t b i = if begins_with t b i then Some (i + length t) else None
+
+-- these bytes
+unfoldable pub text : List ℕ → Reader (Unit {0})
+text t = Passes (after_text t)
+
+-- these bytes and the gap after them
+unfoldable pub keyword : List ℕ → Reader (Unit {0})
+keyword t = do
+  text t
+  gap
+
 -- ---- what can be read ahead, as functions of bytes
 
 -- after this byte and the gap after it

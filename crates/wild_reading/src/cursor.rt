@@ -148,6 +148,13 @@ impl<'a> Cursor<'a> {
         lex::begins(self.bytes, self.at, byte)
     }
 
+    /// Whether these bytes are ahead.
+    pub fn begins_with(&self, text: &[u8]) -> bool
+        ensures { result ≡ spec.begins_with text.now self.now.text.bytes self.now.at }
+    {
+        lex::begins_with(self.bytes, self.at, text)
+    }
+
     /// Whether a byte of the class is the next one.
     pub fn begins_run(&self, class: Class) -> bool
         ensures { result ≡ spec.begins_run class self.now.text.bytes self.now.at }
@@ -306,6 +313,30 @@ impl<'a> Cursor<'a> {
         ensures marked { is_mark byte ≡ true → OnOk result (IsMarked self.new) }
     {
         self.byte(byte)?;
+        self.gap()?;
+        Ok(())
+    }
+
+    /// Reads these bytes, and nothing after them.
+    #[tactic(auto, using(crate::proofs::Readers::leaves, crate::proofs::Leaves::moves), unfolding(crate::specs::Lex::text, crate::specs::Lex::after_text))]
+    pub fn text(&mut self, text: &[u8]) -> Result<(), Stop>
+        ensures read { Answers (lexis.text text.now) self.old self.new result }
+        ensures shorter { OnOk result (ahead self.new + length text.now ≤ ahead self.old) }
+    {
+        if !lex::begins_with(self.bytes, self.at, text) {
+            return Err(Stop::Syntax { position: self.at });
+        }
+        self.at += text.len();
+        Ok(())
+    }
+
+    /// Reads these bytes and the gap after them.
+    #[tactic(auto, using(crate::proofs::Readers::reading), unfolding(crate::specs::Lex::keyword))]
+    pub fn keyword(&mut self, text: &[u8]) -> Result<(), Stop>
+        ensures read { Answers (lexis.keyword text.now) self.old self.new result }
+        ensures shorter { OnOk result (ahead self.new + length text.now ≤ ahead self.old) }
+    {
+        self.text(text)?;
         self.gap()?;
         Ok(())
     }
