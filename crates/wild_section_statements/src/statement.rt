@@ -1,92 +1,61 @@
-//! Reads output sections and the other statements of SECTIONS.
+//! Reads statements of SECTIONS.
 
-ghost use Rattle.std.specs.Prelude.{◌≡◌, ◌<◌, OnOk};
+ghost use Rattle.std.specs.Prelude.{◌<◌, OnOk};
 ghost use Rattle.wild_reading.specs.Only.{Answers};
 ghost use Rattle.wild_reading.specs.Position.{ahead};
-ghost use Rattle.wild_section_statements.specs.Section as spec;
+ghost use Rattle.wild_expression_words.specs.Dialect.{first_grammar};
+ghost use Rattle.wild_section_statements.specs.Statement as spec;
 
-use crate::assignment::{begins_assignment, closed_value};
-use crate::contents::contents;
-use crate::provide::provide_body;
-use wild_script_tree::{Location, Section, SectionCommand, SymbolAssignment};
+use crate::section::named;
 use crate::words::{StatementWord, statement_word};
-use sqlite_items::Boxed;
+use sqlite_items::{Boxed, Items};
 use std::alloc::Global;
 use wild_expression::assert_body;
 use wild_expression_words::is_counter;
 use wild_names::Name;
-use wild_reading::{Cursor, Grammar, Stop};
+use wild_reading::{Cursor, Grammar, Stop, read_until};
+use wild_script_tree::{Location, SectionCommand, SymbolAssignment};
+use wild_statements::{begins_assignment, closed_value, provide_body};
 
-#[tactic(auto, unfolding(crate::specs::Section::is_section_name))]
-fn is_section_name(name: &[u8]) -> bool
-    ensures { result ≡ spec.is_section_name name.now }
+#[tactic(auto, using(wild_reading::proofs::Readers::reading), unfolding(crate::specs::Statement::section_statement))]
+fn section_statement(
+    cursor: &mut Cursor<'_>,
+    alloc: Global,
+    name: &[u8],
+) -> Result<SectionCommand, Stop>
+    ensures { Answers (spec.section_statement first_grammar name.now) cursor.old cursor.new result }
 {
-    !(name == b"".as_slice())
-}
-
-#[tactic(auto, unfolding(crate::specs::Section::has_no_tail))]
-fn has_no_tail(cursor: &Cursor<'_>) -> bool
-    ensures { result ≡ spec.has_no_tail cursor.now.text.bytes cursor.now.at }
-{
-    !(cursor.begins(b':') || cursor.begins(b'>') || cursor.begins(b'='))
-}
-
-#[tactic(auto, using(wild_reading::proofs::Readers::checking), unfolding(crate::specs::Section::no_tail))]
-fn no_tail(cursor: &Cursor<'_>) -> Result<(), Stop>
-    ensures { Answers spec.no_tail cursor.now cursor.now result }
-{
-    if has_no_tail(cursor) {
-        Ok(())
-    } else {
-        Err(Stop::Syntax {
-            position: cursor.position(),
-        })
-    }
-}
-
-// What is after the name of a section.
-#[tactic(auto, using(wild_reading::proofs::Readers::reading), unfolding(crate::specs::Section::section))]
-fn section(cursor: &mut Cursor<'_>, alloc: Global, name: &[u8]) -> Result<SectionCommand, Stop>
-    ensures { Answers (spec.«section» name.now) cursor.old cursor.new result }
-{
-    cursor.check(is_section_name(name))?;
-    cursor.symbol(b':')?;
-    cursor.symbol(b'{')?;
-    let commands = contents(cursor, alloc)?;
-    cursor.symbol(b'}')?;
-    no_tail(cursor)?;
-    cursor.optional_symbol(b',')?;
-    let output_section_name = Name::new(alloc, name)?;
-    let section = Section {
-        output_section_name,
-        commands,
-    };
+    let section = named(cursor, alloc, name)?;
     Ok(SectionCommand::Section(Boxed::new(alloc, section)?))
 }
 
-#[tactic(auto, using(wild_reading::proofs::Readers::reading), unfolding(crate::specs::Section::assert_statement))]
+#[tactic(auto, using(wild_reading::proofs::Readers::reading), unfolding(crate::specs::Statement::assert_statement))]
 fn assert_statement(cursor: &mut Cursor<'_>, alloc: Global) -> Result<SectionCommand, Stop>
-    ensures { Answers spec.assert_statement cursor.old cursor.new result }
+    ensures { Answers (spec.assert_statement first_grammar) cursor.old cursor.new result }
 {
     let body = assert_body(cursor, alloc)?;
     Ok(SectionCommand::Assert(body))
 }
 
-#[tactic(auto, using(wild_reading::proofs::Readers::reading), unfolding(crate::specs::Section::provide_statement))]
+#[tactic(auto, using(wild_reading::proofs::Readers::reading), unfolding(crate::specs::Statement::provide_statement))]
 fn provide_statement(
     cursor: &mut Cursor<'_>,
     alloc: Global,
     hidden: bool,
 ) -> Result<SectionCommand, Stop>
-    ensures { Answers (spec.provide_statement hidden) cursor.old cursor.new result }
+    ensures { Answers (spec.provide_statement first_grammar hidden) cursor.old cursor.new result }
 {
     let provide = provide_body(cursor, alloc, hidden)?;
     Ok(SectionCommand::Provide(provide))
 }
 
-#[tactic(auto, using(wild_reading::proofs::Readers::reading), unfolding(crate::specs::Section::location))]
-fn location(cursor: &mut Cursor<'_>, alloc: Global, name: &[u8]) -> Result<SectionCommand, Stop>
-    ensures { Answers (spec.location name.now) cursor.old cursor.new result }
+#[tactic(auto, using(wild_reading::proofs::Readers::reading), unfolding(crate::specs::Statement::counter_statement))]
+fn counter_statement(
+    cursor: &mut Cursor<'_>,
+    alloc: Global,
+    name: &[u8],
+) -> Result<SectionCommand, Stop>
+    ensures { Answers (spec.counter_statement first_grammar name.now) cursor.old cursor.new result }
 {
     let value = closed_value(cursor, alloc, name)?;
     Ok(SectionCommand::SetLocation(Location {
@@ -94,13 +63,13 @@ fn location(cursor: &mut Cursor<'_>, alloc: Global, name: &[u8]) -> Result<Secti
     }))
 }
 
-#[tactic(auto, using(wild_reading::proofs::Readers::reading), unfolding(crate::specs::Section::symbol_assignment))]
-fn symbol_assignment(
+#[tactic(auto, using(wild_reading::proofs::Readers::reading), unfolding(crate::specs::Statement::symbol_statement))]
+fn symbol_statement(
     cursor: &mut Cursor<'_>,
     alloc: Global,
     name: &[u8],
 ) -> Result<SectionCommand, Stop>
-    ensures { Answers (spec.symbol_assignment name.now) cursor.old cursor.new result }
+    ensures { Answers (spec.symbol_statement first_grammar name.now) cursor.old cursor.new result }
 {
     let value = closed_value(cursor, alloc, name)?;
     let name = Name::new(alloc, name)?;
@@ -110,29 +79,33 @@ fn symbol_assignment(
     }))
 }
 
-#[tactic(auto, using(wild_reading::proofs::Readers::choosing), unfolding(crate::specs::Section::assignment))]
-fn assignment(cursor: &mut Cursor<'_>, alloc: Global, name: &[u8]) -> Result<SectionCommand, Stop>
-    ensures { Answers (spec.assignment name.now) cursor.old cursor.new result }
-{
-    if is_counter(name) {
-        location(cursor, alloc, name)
-    } else {
-        symbol_assignment(cursor, alloc, name)
-    }
-}
-
-#[tactic(auto, using(wild_reading::proofs::Readers::choosing), unfolding(crate::specs::Section::assignment_or_section))]
-fn assignment_or_section(
+#[tactic(auto, using(wild_reading::proofs::Readers::choosing), unfolding(crate::specs::Statement::assigned_statement))]
+fn assigned_statement(
     cursor: &mut Cursor<'_>,
     alloc: Global,
     name: &[u8],
 ) -> Result<SectionCommand, Stop>
-    ensures { Answers (spec.assignment_or_section name.now) cursor.old cursor.new result }
+    ensures { Answers (spec.assigned_statement first_grammar name.now) cursor.old cursor.new result }
+{
+    if is_counter(name) {
+        counter_statement(cursor, alloc, name)
+    } else {
+        symbol_statement(cursor, alloc, name)
+    }
+}
+
+#[tactic(auto, using(wild_reading::proofs::Readers::choosing), unfolding(crate::specs::Statement::named_statement))]
+fn named_statement(
+    cursor: &mut Cursor<'_>,
+    alloc: Global,
+    name: &[u8],
+) -> Result<SectionCommand, Stop>
+    ensures { Answers (spec.named_statement first_grammar name.now) cursor.old cursor.new result }
 {
     if begins_assignment(cursor) {
-        assignment(cursor, alloc, name)
+        assigned_statement(cursor, alloc, name)
     } else {
-        section(cursor, alloc, name)
+        section_statement(cursor, alloc, name)
     }
 }
 
@@ -141,7 +114,7 @@ fn word_statement(
     alloc: Global,
     word: StatementWord,
 ) -> Result<SectionCommand, Stop>
-    ensures { Answers (spec.word_statement word) cursor.old cursor.new result }
+    ensures { Answers (spec.word_statement first_grammar word) cursor.old cursor.new result }
 {
     match word {
         StatementWord::Assert => assert_statement(cursor, alloc),
@@ -150,29 +123,45 @@ fn word_statement(
     }
 }
 
-#[tactic(auto, unfolding(crate::specs::Section::after_first))]
+#[tactic(auto, unfolding(crate::specs::Statement::after_first))]
 fn after_first(cursor: &mut Cursor<'_>, alloc: Global, name: &[u8]) -> Result<SectionCommand, Stop>
-    ensures { Answers (spec.after_first name.now) cursor.old cursor.new result }
+    ensures { Answers (spec.after_first first_grammar name.now) cursor.old cursor.new result }
 {
     match statement_word(name) {
-        None => assignment_or_section(cursor, alloc, name),
+        None => named_statement(cursor, alloc, name),
         Some(word) => word_statement(cursor, alloc, word),
     }
 }
 
-#[tactic(auto, using(wild_reading::proofs::Readers::reading), unfolding(crate::specs::Section::statement))]
+#[tactic(auto, using(wild_reading::proofs::Readers::reading), unfolding(crate::specs::Statement::statement))]
 fn statement(cursor: &mut Cursor<'_>, alloc: Global) -> Result<SectionCommand, Stop>
-    ensures read { Answers spec.statement cursor.old cursor.new result }
+    ensures read { Answers (spec.statement first_grammar) cursor.old cursor.new result }
     ensures shorter { OnOk result (ahead cursor.new < ahead cursor.old) }
 {
     let name = cursor.word()?;
     after_first(cursor, alloc, name.content())
 }
 
-impl Grammar for SectionCommand {
-    ghost reads = { spec.statement };
+// Statements one after another.
+struct Statements;
+
+impl Grammar for Statements {
+    type Item = SectionCommand;
+
+    ghost reads = { spec.statement first_grammar };
 
     fn read(cursor: &mut Cursor<'_>, alloc: Global) -> Result<SectionCommand, Stop> {
         statement(cursor, alloc)
     }
+}
+
+/// Reads statements of SECTIONS up to a closing brace.
+#[tactic(auto, unfolding(crate::specs::Statement::section_statements))]
+pub fn section_statements(
+    cursor: &mut Cursor<'_>,
+    alloc: Global,
+) -> Result<Items<SectionCommand>, Stop>
+    ensures { Answers (spec.section_statements first_grammar) cursor.old cursor.new result }
+{
+    read_until::<Statements>(cursor, alloc, b'}')
 }
