@@ -151,10 +151,10 @@ fn pattern(cursor: &mut Cursor<'_>, alloc: Global) -> Result<SectionPattern, Sto
     }
 }
 
-// Patterns one after another.
-struct Patterns;
+// How a pattern is read.
+struct PatternReader;
 
-impl Grammar for Patterns {
+impl Grammar for PatternReader {
     type Item = SectionPattern;
 
     ghost reads = { spec.pattern };
@@ -168,7 +168,7 @@ impl Grammar for Patterns {
 fn patterns(cursor: &mut Cursor<'_>, alloc: Global) -> Result<Items<SectionPattern>, Stop>
     ensures { Answers spec.patterns cursor.old cursor.new result }
 {
-    read_until::<Patterns>(cursor, alloc, b')')
+    read_until::<PatternReader>(cursor, alloc, b')')
 }
 
 /// Reads patterns in brackets.

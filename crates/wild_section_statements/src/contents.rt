@@ -181,10 +181,10 @@ fn contents_statement(cursor: &mut Cursor<'_>, alloc: Global) -> Result<Contents
     after_token(cursor, alloc, &first)
 }
 
-// Statements one after another.
-struct Contents;
+// How a statement is read.
+struct ContentsReader;
 
-impl Grammar for Contents {
+impl Grammar for ContentsReader {
     type Item = ContentsCommand;
 
     ghost reads = { spec.contents_statement first_grammar };
@@ -199,5 +199,5 @@ impl Grammar for Contents {
 pub fn contents(cursor: &mut Cursor<'_>, alloc: Global) -> Result<Items<ContentsCommand>, Stop>
     ensures { Answers (spec.contents first_grammar) cursor.old cursor.new result }
 {
-    read_until::<Contents>(cursor, alloc, b'}')
+    read_until::<ContentsReader>(cursor, alloc, b'}')
 }

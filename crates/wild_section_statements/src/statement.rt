@@ -142,10 +142,10 @@ fn statement(cursor: &mut Cursor<'_>, alloc: Global) -> Result<SectionCommand, S
     after_first(cursor, alloc, name.content())
 }
 
-// Statements one after another.
-struct Statements;
+// How a statement is read.
+struct StatementReader;
 
-impl Grammar for Statements {
+impl Grammar for StatementReader {
     type Item = SectionCommand;
 
     ghost reads = { spec.statement first_grammar };
@@ -163,5 +163,5 @@ pub fn section_statements(
 ) -> Result<Items<SectionCommand>, Stop>
     ensures { Answers (spec.section_statements first_grammar) cursor.old cursor.new result }
 {
-    read_until::<Statements>(cursor, alloc, b'}')
+    read_until::<StatementReader>(cursor, alloc, b'}')
 }
