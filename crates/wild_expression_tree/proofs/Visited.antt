@@ -1,6 +1,6 @@
 -- Visits that follow each other.
 use Rattle.std.proofs.Common.{◌≡◌, ◌∙◌, true, false, List, [], ◌∷◌, ◌++◌, None, Some, refl, sym, ap, subst, append_assoc}
-use Rattle.std.specs.Prelude.{Bool, slice_get, option_to_list}
+use Rattle.std.specs.Prelude.{Bool, Option, slice_get, option_to_list}
 use Rattle.std.proofs.lemmas.List.{append-nil}
 use Rattle.wild_expression_tree.specs.Shape.{Shape, Align, shape, parts}
 use Rattle.wild_expression_tree.specs.Visit.{Visit, Walk, done, declined, entered, Step, Sees, Visited}
@@ -21,8 +21,8 @@ visited {step = step} {a = a} {b = b} {c = c} p q = record { visits = p.visits +
 pub unvisited : {V : Type 0} {step : Step V} {a : V} → Visited step a [] a
 unvisited = record { visits = []; walked = done; seen = refl }
 
-pub left : {V : Type 0} {step : Step V} {a b : V} {x : Expression} → step a x false b → Visited step a (x ∷ []) b
-left {b = b} {x = x} p = record { visits = (x, false) ∷ []; walked = declined done; seen = (b, p, refl) }
+pub left : {V : Type 0} {step : Step V} {a b : V} {x : Expression} {answer : Bool} → step a x answer b → answer ≡ false → Visited step a (x ∷ []) b
+left {step = step} {a = a} {b = b} {x = x} p e = record { visits = (x, false) ∷ []; walked = declined done; seen = (b, subst (λ y. step a x y b) e p, refl) }
 
 -- the three parts of a node are all
 all_parts : {X : Type 0} (s : Shape X) → option_to_list (slice_get (parts s) 0) ++ (option_to_list (slice_get (parts s) 1) ++ option_to_list (slice_get (parts s) 2)) ≡ parts s
@@ -30,10 +30,13 @@ all_parts (Align x None) = refl
 all_parts (Align x (Some y)) = refl
 all_parts s = refl
 
-pub inside : {V : Type 0} {step : Step V} {a b c : V} {x : Expression} → step a x true b → Visited step b (parts (shape x)) c → Visited step a (x ∷ []) c
-inside {b = b} {x = x} p q = record { visits = (x, true) ∷ q.visits; walked = entered (subst (λ zs. Walk zs q.visits) (sym (append-nil (parts (shape x)))) q.walked); seen = (b, p, q.seen) }
+inside : {V : Type 0} (step : Step V) (a b c : V) (x : Expression) → step a x true b → Visited step b (parts (shape x)) c → Visited step a (x ∷ []) c
+inside step a b c x p q = record { visits = (x, true) ∷ q.visits; walked = entered (subst (λ zs. Walk zs q.visits) (sym (append-nil (parts (shape x)))) q.walked); seen = (b, p, q.seen) }
 
-pub through : {V : Type 0} {step : Step V} {a b c d e : V} {x : Expression} → step a x true b → Visited step b (option_to_list (slice_get (parts (shape x)) 0)) c → Visited step c (option_to_list (slice_get (parts (shape x)) 1)) d → Visited step d (option_to_list (slice_get (parts (shape x)) 2)) e → Visited step a (x ∷ []) e
-through {x = x} p q r s = inside p (subst (λ zs. Visited _ _ zs _) (all_parts (shape x)) (visited q (visited r s)))
-
-pub ruleset visiting = (unvisited, left, through)
+-- a node that was entered, with its first, its second and its third part
+pub through : {V : Type 0} {step : Step V} {a b c d e : V} {x : Expression} {answer : Bool} {s : Shape Expression} {u v w : Option Expression} → step a x answer b → answer ≡ true → s ≡ shape x
+    → (u ≡ slice_get (parts s) 0) × (v ≡ slice_get (parts s) 1) × (w ≡ slice_get (parts s) 2)
+    → Visited step b (option_to_list u) c → Visited step c (option_to_list v) d → Visited step d (option_to_list w) e → Visited step a (x ∷ []) e
+through {step = step} {a = a} {b = b} {e = e} {x = x} {s = s} p wanted shaped are k l m =
+    let all = (λ i. option_to_list (are.0 i) ++ (option_to_list (are.1 i) ++ option_to_list (are.2 i))) ∙ all_parts s ∙ ap parts shaped in
+    inside step a b e x (subst (λ y. step a x y b) wanted p) (subst (λ zs. Visited step b zs e) all (visited k (visited l m)))

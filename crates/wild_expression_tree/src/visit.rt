@@ -23,7 +23,6 @@ pub trait Visitor {
 impl Expression {
     /// Shows the visitor this expression and then, where it wants them, the parts in written order, each in the same way.
     #[cycle(visits)]
-    #[tactic(auto, using(crate::proofs::Visited::visiting))]
     pub fn visit_expressions<V: Visitor>(&self, visitor: &mut V)
         ensures { Visited V.step visitor.old (self.now ∷ []) visitor.new }
     {
@@ -37,7 +36,7 @@ impl Expression {
 }
 
 #[cycle(visits)]
-#[tactic(auto, using(crate::proofs::Visited::visiting))]
+#[tactic(auto, using(crate::proofs::Visited::unvisited))]
 fn visit_part<V: Visitor>(part: Option<&Expression>, visitor: &mut V)
     ensures { Visited V.step visitor.old (option_to_list (seen_held part.entry)) visitor.new }
 {
