@@ -40,3 +40,5 @@ pub through : {V : Type 0} {step : Step V} {a b c d e : V} {x : Expression} {ans
 through {step = step} {a = a} {b = b} {e = e} {x = x} {s = s} p wanted shaped are k l m =
     let all = (λ i. option_to_list (are.0 i) ++ (option_to_list (are.1 i) ++ option_to_list (are.2 i))) ∙ all_parts s ∙ ap parts shaped in
     inside step a b e x (subst (λ y. step a x y b) wanted p) (subst (λ zs. Visited step b zs e) all (visited k (visited l m)))
+
+pub ruleset visiting = (unvisited, left, through)

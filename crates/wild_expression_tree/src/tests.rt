@@ -47,10 +47,7 @@ fn ternary(alloc: Global) -> Result<Boxed<Expression>, NoMemory> {
     let condition = number(alloc, 1)?;
     let value = number(alloc, 2)?;
     let otherwise = symbol(alloc)?;
-    Ok(Boxed::new(
-        alloc,
-        Expression::Ternary(condition, value, otherwise),
-    )?)
+    Ok(Boxed::new(alloc, Expression::Ternary(condition, value, otherwise))?)
 }
 
 fn aligned(alloc: Global) -> Result<Boxed<Expression>, NoMemory> {

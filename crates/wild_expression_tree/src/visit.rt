@@ -23,6 +23,7 @@ pub trait Visitor {
 impl Expression {
     /// Shows the visitor this expression and then, where it wants them, the parts in written order, each in the same way.
     #[cycle(visits)]
+    #[tactic(auto, using(crate::proofs::Visited::visiting))]
     pub fn visit_expressions<V: Visitor>(&self, visitor: &mut V)
         ensures { Visited V.step visitor.old (self.now ∷ []) visitor.new }
     {
