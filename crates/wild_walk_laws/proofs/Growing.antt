@@ -15,7 +15,7 @@ use Rattle.wild_plan_spec.specs.Case.{Case}
 use Rattle.wild_plan_spec.specs.Fit.{IsLaid}
 use Rattle.wild_plan_spec.specs.Ground.{Ground, ground_of}
 use Rattle.wild_plan_spec.specs.Orphans.{places_of}
-use Rattle.wild_plan_spec.specs.Places.{Place, SetLocation, Wait, Open, Collect, Rows, Close, Idle}
+use Rattle.wild_plan_spec.specs.Places.{Place, SetLocation, Wait, Open, Collect, Rows, Close, Discard, Idle, Unbuilt}
 use Rattle.wild_plan_spec.specs.Points.{location_point}
 use Rattle.wild_plan_spec.specs.Scopes.{scope_of}
 use Rattle.wild_plan_spec.specs.Steps.{State, row_placed, rows_placed, chunk_placed, chunk_collected, section_ended_alone, section_ended_after, section_closed, dot_before, dot_noted, effect, step}
@@ -72,7 +72,7 @@ module _ (ground : Ground) where
   unfolding effect chunk_collected section_closed section_ended_after
   effect_grows i (SetLocation e) st next goes =
       by_location (Grows st) ground i e st next goes (λ n value. record { known = λ x m h. h; locations = (record { statement = i; address = n } ∷ [], refl) })
-  effect_grows i (Open s) st next goes = by_open (Grows st) ground s st next goes (λ n up. record {
+  effect_grows i (Open s x) st next goes = by_open (Grows st) ground s st next goes (λ n up. record {
     known = λ x m h. grown_entry (Load s) n (with_number (Start s) n st.known) x m (grown_entry (Start s) n st.known x m h);
     locations = whole st.locations;
   })
@@ -84,7 +84,9 @@ module _ (ground : Ground) where
       grows_on st first.0 next (chunk_grows (ground.rows q) st first.0 first.1) (end_grows s first.0 next first.2)
   effect_grows i (Collect None m) st next goes = by_state (Grows st) st next goes (grows_not st)
   effect_grows i (Wait w task) st next goes = by_state (Grows st) st next goes (grows_not st)
+  effect_grows i (Discard x) st next goes = by_state (Grows st) st next goes (grows_not st)
   effect_grows i Idle st next goes = by_state (Grows st) st next goes (grows_not st)
+  effect_grows i Unbuilt st next goes = by_state (Grows st) st next goes (grows_not st)
 
   pub step_grows : (i : ℕ) (p : Place) (st next : State) → step ground i p st ≡ Ok next → Grows st next
   unfolding step

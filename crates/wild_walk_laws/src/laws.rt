@@ -1,6 +1,6 @@
 //! Laws about places, and about layouts of all of them.
 
-ghost use Rattle.std.specs.Prelude.{◌≡◌, ℕ, ◌+◌, ◌^◌, ◌<◌, Some, length, slice_get};
+ghost use Rattle.std.specs.Prelude.{◌≡◌, ℕ, ◌+◌, ◌^◌, ◌<◌, List, Some, length, slice_get};
 ghost use Rattle.wild_expression_tree.specs.declared.tree.Expression.{Expression};
 ghost use Rattle.wild_plan_spec.specs.declared.chunk.Kept.{Kept};
 ghost use Rattle.wild_plan_spec.specs.declared.row.InputTable.{InputTable};
