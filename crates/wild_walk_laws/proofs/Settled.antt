@@ -1,5 +1,5 @@
 -- What the statements of a plan's script are worth over its finished table.
-use Rattle.std.proofs.Common.{◌≡◌, ◌≢◌, ◌∙◌, ℕ, zero, suc, ◌+◌, ◌-◌, ◌==◌, Bool, true, false, cond, List, [], ◌∷◌, ◌++◌, Option, Some, None, Result, Ok, Err, refl, sym, ap, arith}
+use Rattle.std.proofs.Common.{◌≡◌, ◌≢◌, ◌∙◌, ℕ, zero, suc, ◌+◌, ◌-◌, ◌==◌, Bool, true, false, cond, List, [], ◌∷◌, ◌++◌, Option, Some, None, Result, Ok, Err, refl, sym, ap, subst, arith}
 use Rattle.std.specs.Prelude.{slice_get}
 use Rattle.std.specs.Option.{option_to_list}
 use Rattle.std.proofs.lemmas.Bool.{eq-eqb}
@@ -172,9 +172,7 @@ module _ (c : Case) (plan : Layout) (f : Fits c plan) where
       record { value = found.0; worth = found.1; holds = condition_nonzero scope known i w k found.0 found.1 }
 
   location_settles : (i : ℕ) (e : Expression) → slice_get places i ≡ Some (SetLocation e) → LocationSettles c known plan i e
-  location_settles i e there =
-      let held = locations_hold c f.state f.laid i e there in
-      record { address = held.address; worth = held.value; listed = rw f.listed (held.index, held.listed) }
+  location_settles i e there = subst (λ (p : Layout). LocationSettles c f.state.known p i e) (sym f.listed) (locations_hold c f.state f.laid f.found i e there)
 
   pub settles : IsSettled c known plan
   settles = record { locations = location_settles; assignments = assignment_settles; provides = provide_settles; conditions = condition_settles }
