@@ -47,7 +47,7 @@ fn section_body(
     alloc: Global,
     mut section: Section,
 ) -> Result<Section, Stop>
-    ensures { Answers (spec.section_body first_grammar section.entry) cursor.old cursor.new result }
+    ensures { Answers (spec.section_body first_grammar section) cursor.old cursor.new result }
 {
     cursor.symbol(b'{')?;
     let commands = contents(cursor, alloc)?;
