@@ -2,9 +2,12 @@
 #![tactic(auto)]
 
 mod copy;
+mod equality;
+mod matcher_equality;
 mod tree;
 
 pub use copy::copy_commands;
+pub use equality::{equality_goes_by_levels, same_commands};
 pub use tree::{
     Command, ContentsCommand, Fill, Location, Matcher, MemoryRegion, OutputFormat, Phdr,
     ProvideSymbolDefinition, Section, SectionAttributes, SectionCommand, SectionPattern, Sections,
