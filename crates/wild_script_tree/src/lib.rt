@@ -14,3 +14,6 @@ pub use tree::{
     SymbolAssignment,
 };
 pub use wild_expression_tree::{AssertCommand, Expression};
+
+#[cfg(test)]
+mod tests;
