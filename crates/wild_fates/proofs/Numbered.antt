@@ -10,7 +10,7 @@ use Rattle.wild_rules.specs.Lookup as lookup
 use Rattle.wild_rules.specs.Making as making
 use Rattle.wild_rules.specs.Rule as rules
 use Rattle.wild_rules.specs.Taking.{takes}
-use Rattle.wild_script.specs.declared.tree.SectionPattern.{SectionPattern}
+use Rattle.wild_script_tree.specs.declared.tree.SectionPattern.{SectionPattern}
 use Rattle.wild_plan_spec.specs.declared.chunk.Chunk.{Chunk}
 use Rattle.wild_plan_spec.specs.declared.chunk.Decision.{Decision}
 use Rattle.wild_plan_spec.specs.declared.chunk.Decision.TheVariants.{ByName}

@@ -1,8 +1,8 @@
 -- The places and the sections of a script with those of its orphans.
 use Rattle.std.proofs.Common.{◌≡◌, ◌∙◌, ◌++◌, ◌+◌, ◌-◌, ℕ, suc, arith, List, [], ◌∷◌, length, None, refl, ap}
 use Rattle.std.proofs.lemmas.List.{length-append}
-use Rattle.wild_script.specs.declared.tree.LinkerScript.{LinkerScript}
-use Rattle.wild_script.specs.declared.tree.Section.{Section}
+use Rattle.wild_script_tree.specs.declared.tree.Command.{Command}
+use Rattle.wild_script_tree.specs.declared.tree.Section.{Section}
 use Rattle.wild_plan_spec.specs.declared.row.InputRow.{InputRow}
 use Rattle.wild_plan_spec.specs.declared.row.InputTable.{InputTable}
 use Rattle.wild_plan_spec.specs.Statements.{sections_of}
@@ -21,12 +21,12 @@ names_length (x ∷ xs) = ap suc (names_length xs)
 
 orphans_same : (s : ℕ) (xs : List Name) → orphans_from s (length xs) ≡ orphan_places s xs
 orphans_same s [] = refl
-orphans_same s (x ∷ xs) = ap (λ (ps : List Place). Open s ∷ Rows (record { «section» = s; number = 0 }) ∷ Close s None ∷ ps) (orphans_same (s + 1) xs)
+orphans_same s (x ∷ xs) = ap (λ (ps : List Place). Open s None ∷ Rows (record { «section» = s; number = 0 }) ∷ Close s None ∷ ps) (orphans_same (s + 1) xs)
 
 both_lengths : (xs ys : List Name) → length (xs ++ ys) - length xs ≡ length ys
 both_lengths xs ys = let e = length-append xs ys in omega (arith, e)
 
-module _ (t : LinkerScript) (inputs : InputTable) (ps : List Place) (rules : List Rule) (own : List Name) (rows : List InputRow) (script_fates : ScriptFates) (by : AreFatesBy ps rules own rows script_fates)
+module _ (t : List Command) (inputs : InputTable) (ps : List Place) (rules : List Rule) (own : List Name) (rows : List InputRow) (script_fates : ScriptFates) (by : AreFatesBy ps rules own rows script_fates)
     (in_places : ps ≡ script_places t) (in_rules : rules ≡ rules_of t) (in_names : own ≡ names_of (sections_of t)) (in_rows : rows ≡ inputs.rows) where
   first_orphan : length own ≡ length (sections_of t)
   first_orphan = ap (λ (xs : List Name). length xs) in_names ∙ names_length (sections_of t)

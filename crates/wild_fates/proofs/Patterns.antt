@@ -15,7 +15,7 @@ use Rattle.wild_rules.specs.declared.matcher.SectionNameMatcher.{SectionNameMatc
 use Rattle.wild_rules.specs.declared.outcome.SectionRuleOutcome.{SectionRuleOutcome}
 use Rattle.wild_rules.specs.Making.{pattern_of_names, names_by_kind, names_of, pattern_of_files, files_of, rule_of, script_rule}
 use Rattle.wild_rules.specs.Rule as rules
-use Rattle.wild_script.specs.declared.tree.SectionPattern.{SectionPattern}
+use Rattle.wild_script_tree.specs.declared.tree.SectionPattern.{SectionPattern}
 use Rattle.wild_plan_spec.specs.Checks.{check, pattern_check, failing}
 use Rattle.wild_plan_spec.specs.Names.{Name}
 use Rattle.wild_fates.specs.Passes.{Passes}

@@ -7,7 +7,7 @@ use Rattle.wild_rules.specs.declared.outcome.SectionRuleOutcome.{SectionRuleOutc
 use Rattle.wild_rules.specs.declared.outcome.SectionRuleOutcome.TheVariants as sends
 use Rattle.wild_rules.specs.Making.{script_rule}
 use Rattle.wild_rules.specs.Rule as rules
-use Rattle.wild_script.specs.declared.tree.SectionPattern.{SectionPattern}
+use Rattle.wild_script_tree.specs.declared.tree.SectionPattern.{SectionPattern}
 use Rattle.wild_plan_spec.specs.declared.chunk.Chunk.{Chunk}
 use Rattle.wild_plan_spec.specs.declared.chunk.Decision.{Decision}
 use Rattle.wild_plan_spec.specs.declared.chunk.Decision.TheVariants as decides

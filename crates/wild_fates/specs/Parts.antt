@@ -1,6 +1,6 @@
 -- What the parts of a script and a table are.
 use Rattle.std.specs.Prelude.{◌≡◌, ◌-◌, ◌++◌, List, length}
-use Rattle.wild_script.specs.declared.tree.LinkerScript.{LinkerScript}
+use Rattle.wild_script_tree.specs.declared.tree.Command.{Command}
 use Rattle.wild_plan_spec.specs.declared.row.InputRow.{InputRow}
 use Rattle.wild_plan_spec.specs.declared.row.InputTable.{InputTable}
 use Rattle.wild_plan_spec.specs.Statements.{sections_of}
@@ -16,7 +16,7 @@ use Rattle.wild_fates.specs.Targets.{targets}
 use Rattle.wild_fates.specs.Shown.{shown_places}
 
 -- the sections and the places of a script
-pub record IsParts (t : LinkerScript) (parts : Parts) : Type 0 where
+pub record IsParts (t : List Command) (parts : Parts) : Type 0 where
   pub sections : targets parts.sections ≡ sections_of t
   pub places : shown_places parts.places ≡ script_places t
 
@@ -27,7 +27,7 @@ pub record AreFatesBy (places : List Place) (rules : List Rule) (own : List Name
   pub all_places : shown_places script_fates.places ≡ places ++ orphans_from (length own) (length (own ++ orphans own (names_asked rules rows)) - length own)
 
 -- where the rows of a table go
-pub record AreFates (t : LinkerScript) (inputs : InputTable) (script_fates : ScriptFates) : Type 0 where
+pub record AreFates (t : List Command) (inputs : InputTable) (script_fates : ScriptFates) : Type 0 where
   pub names : script_fates.names ≡ section_names t inputs
   pub fates : script_fates.fates ≡ fates_of t inputs
   pub places : shown_places script_fates.places ≡ places_of t inputs

@@ -3,7 +3,7 @@ use Rattle.std.proofs.Common.{◌≡◌, ◌∙◌, Option, List, length, None, 
 use Rattle.wild_names.specs.declared.fault.Fault.{Fault}
 use Rattle.wild_names.specs.declared.fault.Fault.TheVariants.{Syntax, UnclosedComment, UnsupportedNestedSort, TooDeep}
 use Rattle.wild_script.specs.Tree.{Bytes, tree, IsTree, IsParseFault}
-use Rattle.wild_script.specs.declared.tree.LinkerScript.{LinkerScript}
+use Rattle.wild_script_tree.specs.declared.tree.Command.{Command}
 use Rattle.wild_plan_spec.specs.declared.chunk.Chunk.{Chunk}
 use Rattle.wild_plan_spec.specs.declared.chunk.ChunkRow.{ChunkRow}
 use Rattle.wild_plan_spec.specs.declared.chunk.Kept.{Kept}
@@ -32,13 +32,13 @@ use Rattle.wild_plan.proofs.Sums.{sums_same}
 -- ---- cases
 
 module _ (c : Case) (sound : failing (checks c) ≡ None) (order : Chunk → List ChunkRow) (ordered : AreOrdered c order)
-    (ground : Ground) (on : ground ≡ ground_of c order) (places : List Place) (all : places ≡ places_of c.tree c.inputs) where
+    (ground : Ground) (on : ground ≡ ground_of c order) (places : List Place) (all : places ≡ places_of c.commands c.inputs) where
   pub walk_refused : (fault : Fault) → Refuses ground places fault → FaultIn c fault
   walk_refused fault h = inr (inl (record {
     sound = sound;
     order = order;
     ordered = ordered;
-    refuses = subst (λ (g : Ground). Refuses g (places_of c.tree c.inputs) fault) on (subst (λ (ps : List Place). Refuses ground ps fault) all h);
+    refuses = subst (λ (g : Ground). Refuses g (places_of c.commands c.inputs) fault) on (subst (λ (ps : List Place). Refuses ground ps fault) all h);
   }))
 
   module _ (state : State) (stands : Stands ground places (length places) state) where
@@ -47,21 +47,21 @@ module _ (c : Case) (sound : failing (checks c) ≡ None) (order : Chunk → Lis
       sound = sound;
       order = order;
       ordered = ordered;
-      stands = subst (λ (g : Ground). Stands g (places_of c.tree c.inputs) (length (places_of c.tree c.inputs)) state) on (subst (λ (ps : List Place). Stands ground ps (length ps) state) all stands);
+      stands = subst (λ (g : Ground). Stands g (places_of c.commands c.inputs) (length (places_of c.commands c.inputs)) state) on (subst (λ (ps : List Place). Stands ground ps (length ps) state) all stands);
     }
 
-    final_same : final_symbols ground.scope state.known places ≡ final_symbols (scope_of c) state.known (places_of c.tree c.inputs)
-    final_same = ap (λ (ps : List Place). final_symbols ground.scope state.known ps) all ∙ ap (λ (g : Ground). final_symbols g.scope state.known (places_of c.tree c.inputs)) on
+    final_same : final_symbols ground.scope state.known places ≡ final_symbols (scope_of c) state.known (places_of c.commands c.inputs)
+    final_same = ap (λ (ps : List Place). final_symbols ground.scope state.known ps) all ∙ ap (λ (g : Ground). final_symbols g.scope state.known (places_of c.commands c.inputs)) on
 
     pub end_refused : (fault : Fault) → final_symbols ground.scope state.known places ≡ Err fault → FaultIn c fault
     end_refused fault h = inr (inr (record { state = state; laid = laid; refused = sym final_same ∙ h }))
 
     module _ (found : List PlacedSymbol) (finishes : final_symbols ground.scope state.known places ≡ Ok found) (fates : List (Option Kept)) (facts : List Facts) (lists : Lists)
-        (are_fates : fates ≡ fates_of c.tree c.inputs) (are_facts : facts ≡ facts_of c.tree c.inputs) (l : IsListed c.inputs fates facts state found lists) where
-      lists_same : shown_lists c.tree lists ≡ layout c state found
+        (are_fates : fates ≡ fates_of c.commands c.inputs) (are_facts : facts ≡ facts_of c.commands c.inputs) (l : IsListed c.inputs fates facts state found lists) where
+      lists_same : shown_lists c.commands lists ≡ layout c state found
       lists_same = rw (l.sections, l.placements, l.locations, l.symbols, l.names, are_fates, are_facts, sums_same c state laid) refl
 
-      pub lists_fit : Fits c (shown_lists c.tree lists)
+      pub lists_fit : Fits c (shown_lists c.commands lists)
       lists_fit = record {
         state = state;
         laid = laid;
@@ -73,22 +73,22 @@ module _ (c : Case) (sound : failing (checks c) ≡ None) (order : Chunk → Lis
 -- ---- scripts
 
 -- what says that there is no tree
-none_by : (script : Bytes) (t : LinkerScript) (fault : Fault) → tree script t → IsParseFault script fault → ⊥
+none_by : (script : Bytes) (t : List Command) (fault : Fault) → tree script t → IsParseFault script fault → ⊥
 none_by script t (Syntax position) h f = f.none 256 t h
 none_by script t (UnclosedComment position) h f = f.none 256 t h
 none_by script t (UnsupportedNestedSort position) h f = f.none 256 t h
 none_by script t (TooDeep position) h f = f.none t h
 none_by script t g h f = f
 
-module _ (script : Bytes) (inputs : InputTable) (options : PlanOptions) (t : LinkerScript) (is : IsTree script t) where
-  abbrev case : LinkerScript → Case
+module _ (script : Bytes) (inputs : InputTable) (options : PlanOptions) (t : List Command) (is : IsTree script t) where
+  abbrev case : List Command → Case
   case u = case_of script inputs options u
 
   of_tree : (plan : Layout) → IsPlan script inputs options plan → Fits (case t) plan
-  of_tree plan h = subst (λ (u : LinkerScript). Fits (case u) plan) (is.only 256 h.script_tree h.is_tree) h.fits
+  of_tree plan h = subst (λ (u : List Command). Fits (case u) plan) (is.only 256 h.script_tree h.is_tree) h.fits
 
   fault_of_tree : (fault : Fault) → IsLaterFault script inputs options fault → FaultIn (case t) fault
-  fault_of_tree fault h = subst (λ (u : LinkerScript). FaultIn (case u) fault) (is.only 256 h.script_tree h.is_tree) h.fault_in
+  fault_of_tree fault h = subst (λ (u : List Command). FaultIn (case u) fault) (is.only 256 h.script_tree h.is_tree) h.fault_in
 
   -- the bytes have a tree
   no_parse_fault : (fault : Fault) → IsParseFault script fault → ⊥

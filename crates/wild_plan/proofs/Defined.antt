@@ -20,12 +20,12 @@ use Rattle.wild_plan.proofs.Entries.{names_append}
 pub fates_counted : (c : Case) (definitions : Definitions) → IsChecked c definitions → length definitions.script_fates.fates ≡ length c.inputs.rows
 fates_counted c definitions h = ap length h.fates.fates ∙ fates_length _ _ _
 
-module _ (c : Case) (script_fates : ScriptFates) (are : AreFates c.tree c.inputs script_fates) where
-  pub support_same : support_checks 0 c.inputs.rows script_fates.fates ≡ support_checks 0 c.inputs.rows (fates_of c.tree c.inputs)
+module _ (c : Case) (script_fates : ScriptFates) (are : AreFates c.commands c.inputs script_fates) where
+  pub support_same : support_checks 0 c.inputs.rows script_fates.fates ≡ support_checks 0 c.inputs.rows (fates_of c.commands c.inputs)
   support_same = rw are.fates refl
 
   module _ (es : List SymbolEntry) (firm : es ≡ firm_entries script_fates.fates c.inputs.symbols (shown_places script_fates.places)) where
-    firm_same : es ≡ firm_entries (fates_of c.tree c.inputs) c.inputs.symbols (places_of c.tree c.inputs)
+    firm_same : es ≡ firm_entries (fates_of c.commands c.inputs) c.inputs.symbols (places_of c.commands c.inputs)
     firm_same = firm ∙ rw (are.fates, are.places) refl
 
     pub names_same : name_checks DuplicateSymbol [] (entry_names es) ≡ symbol_name_checks c

@@ -74,16 +74,16 @@ kept_ground scope order facts = record { scope = scope; rows = order; facts = λ
 
 module _ (c : Case) where
   abbrev said : List spec.Facts
-  said = spec.facts_of c.tree c.inputs
+  said = spec.facts_of c.commands c.inputs
 
-  names_said : (sections : List (Bor Name)) → targets sections ≡ section_names c.tree c.inputs → (s : ℕ) → kept.or_empty (slice_get sections s) ≡ (spec.facts_at said s).name
+  names_said : (sections : List (Bor Name)) → targets sections ≡ section_names c.commands c.inputs → (s : ℕ) → kept.or_empty (slice_get sections s) ≡ (spec.facts_at said s).name
   names_said sections a s =
       name_same sections s
       ∙ ap (λ (xs : List Name). or_empty (slice_get xs s)) a
-      ∙ sym (name_said c.inputs.rows (fates_of c.tree c.inputs) 0 (section_names c.tree c.inputs) s)
+      ∙ sym (name_said c.inputs.rows (fates_of c.commands c.inputs) 0 (section_names c.commands c.inputs) s)
 
   scope_said : (sections : List (Bor Name)) (numbers : List Name) (alignments : List ℕ) (symbols : List Name) (entries : List SymbolEntry)
-      → targets sections ≡ section_names c.tree c.inputs → numbers ≡ section_names c.tree c.inputs → alignments ≡ alignments_in said
+      → targets sections ≡ section_names c.commands c.inputs → numbers ≡ section_names c.commands c.inputs → alignments ≡ alignments_in said
       → symbols ≡ entry_names (entries_of c) → shown_entries entries ≡ entries_of c → kept_scope sections numbers alignments symbols entries c.script ≡ scope_of c
   scope_said sections numbers alignments symbols entries in_sections in_numbers in_alignments in_symbols in_entries = scopes_same
       (fun_ext (λ s. names_said sections in_sections s))
@@ -102,7 +102,7 @@ module _ (c : Case) where
 
   -- what is kept of a case is its ground
   pub ground_said : (sections : List (Bor Name)) (numbers : List Name) (alignments : List ℕ) (symbols : List Name) (entries : List SymbolEntry) (order : Chunk → List ChunkRow) (facts : List Facts)
-      → targets sections ≡ section_names c.tree c.inputs → numbers ≡ section_names c.tree c.inputs → alignments ≡ alignments_in said
+      → targets sections ≡ section_names c.commands c.inputs → numbers ≡ section_names c.commands c.inputs → alignments ≡ alignments_in said
       → symbols ≡ entry_names (entries_of c) → shown_entries entries ≡ entries_of c → shown_all facts ≡ said
       → kept_ground (kept_scope sections numbers alignments symbols entries c.script) order facts ≡ ground_of c order
   ground_said sections numbers alignments symbols entries order facts in_sections in_numbers in_alignments in_symbols in_entries in_facts =

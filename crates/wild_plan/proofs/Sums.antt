@@ -24,7 +24,7 @@ kept_by (Some (Some k)) q e = (k, refl)
 
 module _ (c : Case) (state : State) (f : IsLaid c state) where
   abbrev fates : List (Option Kept)
-  fates = fates_of c.tree c.inputs
+  fates = fates_of c.commands c.inputs
 
   sum_fits : (i : ℕ) (s : SymbolRow) (q : Chunk) → slice_get c.inputs.symbols i ≡ Some s → symbol_chunk fates s ≡ Some q → number_at state.known (Address s.row) + s.offset < 2 ^ 64
   sum_fits i s q there chunk =

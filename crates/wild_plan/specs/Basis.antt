@@ -9,6 +9,6 @@ use Rattle.wild_plan.specs.Facts.{alignments_in, shown_all}
 
 -- this is what they say
 pub record IsBasis (c : Case) (basis : Basis) : Type 0 where
-  pub facts : shown_all basis.facts ≡ facts_of c.tree c.inputs
-  pub alignments : basis.alignments ≡ alignments_in (facts_of c.tree c.inputs)
+  pub facts : shown_all basis.facts ≡ facts_of c.commands c.inputs
+  pub alignments : basis.alignments ≡ alignments_in (facts_of c.commands c.inputs)
   pub ordered : AreOrdered c (rows_at basis.chunks)

@@ -11,6 +11,6 @@ use Rattle.wild_plan.specs.Entries.{shown_entries}
 -- all checks hold: this is where the rows go, and what is defined
 pub record IsChecked (c : Case) (definitions : Definitions) : Type 0 where
   pub sound : failing (checks c) ≡ None
-  pub fates : AreFates c.tree c.inputs definitions.script_fates
+  pub fates : AreFates c.commands c.inputs definitions.script_fates
   pub entries : shown_entries definitions.entries ≡ entries_of c
   pub names : definitions.names ≡ entry_names (entries_of c)

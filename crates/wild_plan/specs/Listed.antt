@@ -1,6 +1,6 @@
 -- What a plan lists, as it is kept, and what it is.
 use Rattle.std.specs.Prelude.{◌≡◌, List, ◌++◌, Option}
-use Rattle.wild_script.specs.declared.tree.LinkerScript.{LinkerScript}
+use Rattle.wild_script_tree.specs.declared.tree.Command.{Command}
 use Rattle.wild_plan_spec.specs.declared.chunk.Kept.{Kept}
 use Rattle.wild_plan_spec.specs.declared.placed.PlacedSymbol.{PlacedSymbol}
 use Rattle.wild_plan_spec.specs.declared.row.InputTable.{InputTable}
@@ -11,7 +11,7 @@ use Rattle.wild_plan.specs.Sums.{wrapped_symbols}
 use Rattle.wild_plan.specs.declared.lists.Lists.{Lists}
 
 -- the plan of a script that has these lists
-abbrev pub shown_lists : LinkerScript → Lists → Layout
+abbrev pub shown_lists : List Command → Lists → Layout
 shown_lists t l = record { script = t; sections = l.sections; placements = l.placements; locations = l.locations; symbols = l.symbols; names = l.names }
 
 -- the lists of a table whose rows have these fates and whose sections these facts, where this stands after the last place,

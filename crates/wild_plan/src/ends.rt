@@ -17,7 +17,7 @@ use wild_base::Fault;
 use wild_eval::{Addresses, Evaluator, Path};
 use wild_fates::{Place, Task};
 use wild_plan_spec::{PlacedSymbol, Where};
-use wild_script::{AssertCommand, Expression};
+use wild_script_tree::{AssertCommand, Expression};
 
 /// What all is evaluated over, once all places are laid out.
 #[derive(Drop)]

@@ -100,7 +100,7 @@ pub fn ground_on<'a, 'b>(
     requires checked { IsChecked (shown_case case.now) definitions.now }
     requires basis { IsBasis (shown_case case.now) basis.now }
     ensures ground { shown_ground result ≡ ground_of (shown_case case.now) (rows_at basis.now.chunks) }
-    ensures facts { shown_all result.facts.now ≡ facts_of case.now.tree.now case.now.inputs.now }
+    ensures facts { shown_all result.facts.now ≡ facts_of case.now.commands.now case.now.inputs.now }
 {
     let names = &definitions.script_fates.names;
     let scope = Scope {

@@ -51,7 +51,7 @@ pub fn plan(
 /// The lists of the plan of a case: its checks and fates, what its rows say of sections and chunks, and then all that is
 /// found on them.
 fn script_lists(alloc: Global, case: &Case<'_>) -> Result<Lists, Fault>
-    ensures fits { IfOk result (λ l. Fits (shown_case case.now) (shown_lists case.now.tree.now l)) }
+    ensures fits { IfOk result (λ l. Fits (shown_case case.now) (shown_lists case.now.commands.now l)) }
     ensures refused { IfErr result (λ f. (f ≡ fault.NoMemory) ⊎ FaultIn (shown_case case.now) f) }
 {
     let definitions = check(alloc, case)?;
@@ -68,7 +68,7 @@ fn lists_on(
 ) -> Result<Lists, Fault>
     requires checked { IsChecked (shown_case case.now) definitions.now }
     requires basis { IsBasis (shown_case case.now) basis.now }
-    ensures fits { IfOk result (λ l. Fits (shown_case case.now) (shown_lists case.now.tree.now l)) }
+    ensures fits { IfOk result (λ l. Fits (shown_case case.now) (shown_lists case.now.commands.now l)) }
     ensures refused { IfErr result (λ f. (f ≡ fault.NoMemory) ⊎ FaultIn (shown_case case.now) f) }
 {
     let ground = ground_on(alloc, case, definitions, basis);

@@ -18,7 +18,7 @@ use wild_base::{Fault, Name, NoMemory};
 use wild_eval::{Addresses, Definition, Path};
 use wild_fates::{Place, Task};
 use wild_plan_spec::{Chunk, Kept, PlacedSymbol, SymbolRow, Where};
-use wild_script::{Expression, ProvideSymbolDefinition};
+use wild_script_tree::{Expression, ProvideSymbolDefinition};
 
 // ---- of the table
 

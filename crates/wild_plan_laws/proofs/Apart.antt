@@ -29,26 +29,26 @@ use Rattle.wild_walk_laws.proofs.Numbered.{each_at}
 
 module _ (c : Case) where
   abbrev pub fates : List (Option Kept)
-  fates = fates_of c.tree c.inputs
+  fates = fates_of c.commands c.inputs
 
   abbrev pub names : List Name
-  names = section_names c.tree c.inputs
+  names = section_names c.commands c.inputs
 
   -- what is said of the section of a name
   abbrev pub facts_named : ℕ → Name → Facts
   facts_named s x = section_facts x (section_rows s c.inputs.rows fates)
 
-  pub facts_are : (s : ℕ) → slice_get (facts_of c.tree c.inputs) s ≡ option_map (facts_named s) (slice_get names s)
+  pub facts_are : (s : ℕ) → slice_get (facts_of c.commands c.inputs) s ≡ option_map (facts_named s) (slice_get names s)
   facts_are s = each_at facts_named (λ n xs. facts_from c.inputs.rows fates n xs) (λ n. refl) (λ n x xs. refl) names s
 
-  alignment_is : (s : ℕ) (x : Name) → slice_get names s ≡ Some x → (facts_at (facts_of c.tree c.inputs) s).alignment ≡ largest_alignment (section_rows s c.inputs.rows fates)
+  alignment_is : (s : ℕ) (x : Name) → slice_get names s ≡ Some x → (facts_at (facts_of c.commands c.inputs) s).alignment ≡ largest_alignment (section_rows s c.inputs.rows fates)
   alignment_is s x there = ap (λ (o : Option Facts). (unwrap_or o (section_facts [] [])).alignment) (facts_are s ∙ ap (option_map (facts_named s)) there)
 
 module _ (c : Case) (state : State) (f : IsLaid c state) where
   -- what holds after all sections
-  all_after : After (λ s. (facts_at (facts_of c.tree c.inputs) s).alignment) c.inputs.rows (fates c) (length (names c)) state.known
+  all_after : After (λ s. (facts_at (facts_of c.commands c.inputs) s).alignment) c.inputs.rows (fates c) (length (names c)) state.known
   all_after =
-      let alignment = λ (s : ℕ). (facts_at (facts_of c.tree c.inputs) s).alignment in
+      let alignment = λ (s : ℕ). (facts_at (facts_of c.commands c.inputs) s).alignment in
       laid_walked c state f (Stands alignment c.inputs.rows (fates c))
       (stands_passes (ground_of c f.order) c.inputs.rows (fates c) (λ q. chunk_rows c.inputs.rows (fates c) q (f.order q) (f.ordered q)))
       (nothing_after alignment c.inputs.rows (fates c))
@@ -97,9 +97,9 @@ module _ (c : Case) (state : State) (f : IsLaid c state) where
 
   -- ---- all is known
 
-  dots_known : (i : ℕ) (p : Place) → slice_get (places_of c.tree c.inputs) i ≡ Some p → IsKnown state.known (Dot i)
+  dots_known : (i : ℕ) (p : Place) → slice_get (places_of c.commands c.inputs) i ≡ Some p → IsKnown state.known (Dot i)
   dots_known i p there =
-      let places = places_of c.tree c.inputs in
+      let places = places_of c.commands c.inputs in
       let ground = ground_of c f.order in
       let low : i < length places = slice_get_within places i p there in
       let dot = dot_known ground i p (f.stands.before i) (f.stands.before (i + 1)) (f.stands.each i p low there) in

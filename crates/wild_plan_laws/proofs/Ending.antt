@@ -146,29 +146,29 @@ module _ (known : Known) where
 -- ---- cases
 
 module _ (c : Case) (state : State) (f : IsLaid c state) where
-  known_rows : AreRowsKnown state.known (fates_of c.tree c.inputs)
+  known_rows : AreRowsKnown state.known (fates_of c.commands c.inputs)
   known_rows r k fate =
       let address = (all_is_known c state f).addresses r k fate in
-      let laid = kept_lays c.tree c.inputs r k fate in
+      let laid = kept_lays c.commands c.inputs r k fate in
       let lies = rows_lie_in_sections c state f r laid.row k laid.there fate address.0 address.1 in
       (address, (lies.start, lies.spans.starts))
 
-  known_dots : AreDotsKnown state.known 0 (places_of c.tree c.inputs)
+  known_dots : AreDotsKnown state.known 0 (places_of c.commands c.inputs)
   known_dots j p there = let z : j ≡ 0 + j = omega arith in subst (λ n. IsKnown state.known (Dot n)) z ((all_is_known c state f).dots j p there)
 
   known_scope : IsScopeKnown state.known (scope_of c)
   known_scope = record {
     sections = λ name s e.
         let all = all_is_known c state f in
-        let within = position_within (is_named name) 0 (section_names c.tree c.inputs) s e in
-        let low : s < length (section_names c.tree c.inputs) = omega (arith, within) in
+        let within = position_within (is_named name) 0 (section_names c.commands c.inputs) s e in
+        let low : s < length (section_names c.commands c.inputs) = omega (arith, within) in
         (all.starts s low, all.loads s low, all.ends s low);
-    definitions = λ name d e. entries_known state.known (fates_of c.tree c.inputs) c.inputs.symbols (places_of c.tree c.inputs) d known_rows known_dots (said_at state.known (entries_of c) (number_of name (entry_names (entries_of c))) d e);
+    definitions = λ name d e. entries_known state.known (fates_of c.commands c.inputs) c.inputs.symbols (places_of c.commands c.inputs) d known_rows known_dots (said_at state.known (entries_of c) (number_of name (entry_names (entries_of c))) d e);
   }
 
 pub end_is_late : (c : Case) (n : ℕ) (x : Name) → EndFault c (NotLaidOut n x) → ⊥
 end_is_late c n x end =
-    let places = places_of c.tree c.inputs in
+    let places = places_of c.commands c.inputs in
     let known = end.state.known in
     let scope = known_scope c end.state end.laid in
     let dots = known_dots c end.state end.laid in

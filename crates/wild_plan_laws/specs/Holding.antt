@@ -57,8 +57,8 @@ pub record LiesIn (known : Known) (s address size : ℕ) : Type 0 where
 
 -- the numbers of each section, the address of each row that is kept, and the location counter of each place are known
 pub record AllIsKnown (c : Case) (known : Known) : Type 0 where
-  pub starts : (s : ℕ) → s < length (section_names c.tree c.inputs) → IsKnown known (Start s)
-  pub loads : (s : ℕ) → s < length (section_names c.tree c.inputs) → IsKnown known (Load s)
-  pub ends : (s : ℕ) → s < length (section_names c.tree c.inputs) → IsKnown known (End s)
-  pub addresses : (r : ℕ) (k : Kept) → slice_get (fates_of c.tree c.inputs) r ≡ Some (Some k) → IsKnown known (Address r)
-  pub dots : (i : ℕ) (p : Place) → slice_get (places_of c.tree c.inputs) i ≡ Some p → IsKnown known (Dot i)
+  pub starts : (s : ℕ) → s < length (section_names c.commands c.inputs) → IsKnown known (Start s)
+  pub loads : (s : ℕ) → s < length (section_names c.commands c.inputs) → IsKnown known (Load s)
+  pub ends : (s : ℕ) → s < length (section_names c.commands c.inputs) → IsKnown known (End s)
+  pub addresses : (r : ℕ) (k : Kept) → slice_get (fates_of c.commands c.inputs) r ≡ Some (Some k) → IsKnown known (Address r)
+  pub dots : (i : ℕ) (p : Place) → slice_get (places_of c.commands c.inputs) i ≡ Some p → IsKnown known (Dot i)

@@ -24,14 +24,14 @@ pub fn sharing_is_lowest()
 /// loaded where it starts, and ends no lower and below 2 ^ 64.
 pub fn sections_stand()
     ensures { (c : Case) (state : State) → IsLaid c state
-        → (s : ℕ) (name : Name) → slice_get (section_names c.tree c.inputs) s ≡ Some name
-        → LaidSectionStands state.known s (largest_alignment (section_rows s c.inputs.rows (fates_of c.tree c.inputs))) }
+        → (s : ℕ) (name : Name) → slice_get (section_names c.commands c.inputs) s ≡ Some name
+        → LaidSectionStands state.known s (largest_alignment (section_rows s c.inputs.rows (fates_of c.commands c.inputs))) }
 {}
 
 /// Where all places are laid out, each row that has an address lies in the section of its chunk.
 pub fn rows_lie_in_sections()
     ensures { (c : Case) (state : State) → IsLaid c state
-        → (r : ℕ) (row : InputRow) (k : Kept) → slice_get c.inputs.rows r ≡ Some row → slice_get (fates_of c.tree c.inputs) r ≡ Some (Some k)
+        → (r : ℕ) (row : InputRow) (k : Kept) → slice_get c.inputs.rows r ≡ Some row → slice_get (fates_of c.commands c.inputs) r ≡ Some (Some k)
         → (a : ℕ) → state.known (Address r) ≡ Some a → LiesIn state.known k.chunk.section a row.size }
 {}
 

@@ -26,12 +26,12 @@ module _ (c : Case) where
   laid_once : (r s : State) → IsLaid c r → IsLaid c s → r ≡ s
   laid_once r s f g =
       let same = orders_once f.order g.order f.ordered g.ordered in
-      let stands = subst (λ (o : Chunk → List ChunkRow). Stands (ground_of c o) (places_of c.tree c.inputs) (length (places_of c.tree c.inputs)) r) same f.stands in
-      stands_once (ground_of c g.order) (places_of c.tree c.inputs) (length (places_of c.tree c.inputs)) r s stands g.stands
+      let stands = subst (λ (o : Chunk → List ChunkRow). Stands (ground_of c o) (places_of c.commands c.inputs) (length (places_of c.commands c.inputs)) r) same f.stands in
+      stands_once (ground_of c g.order) (places_of c.commands c.inputs) (length (places_of c.commands c.inputs)) r s stands g.stands
 
-  found_once : (r s : State) (xs ys : List PlacedSymbol) → r ≡ s → final_symbols (scope_of c) r.known (places_of c.tree c.inputs) ≡ Ok xs → final_symbols (scope_of c) s.known (places_of c.tree c.inputs) ≡ Ok ys → xs ≡ ys
+  found_once : (r s : State) (xs ys : List PlacedSymbol) → r ≡ s → final_symbols (scope_of c) r.known (places_of c.commands c.inputs) ≡ Ok xs → final_symbols (scope_of c) s.known (places_of c.commands c.inputs) ≡ Ok ys → xs ≡ ys
   found_once r s xs ys same f g =
-      let both : Ok xs ≡ Ok ys = sym f ∙ ap (λ (u : State). final_symbols (scope_of c) u.known (places_of c.tree c.inputs)) same ∙ g in
+      let both : Ok xs ≡ Ok ys = sym f ∙ ap (λ (u : State). final_symbols (scope_of c) u.known (places_of c.commands c.inputs)) same ∙ g in
       cc
 
   pub plans_once : (p q : Layout) → Fits c p → Fits c q → q ≡ p
@@ -43,13 +43,13 @@ module _ (c : Case) where
   laid_or_refused : (s : State) (fault : Fault) → IsLaid c s → LayoutFault c fault → ⊥
   laid_or_refused s fault f g =
       let same = orders_once g.order f.order g.ordered f.ordered in
-      let refuses = subst (λ (o : Chunk → List ChunkRow). Refuses (ground_of c o) (places_of c.tree c.inputs) fault) same g.refuses in
-      stands_or_refuses (ground_of c f.order) (places_of c.tree c.inputs) s fault f.stands refuses
+      let refuses = subst (λ (o : Chunk → List ChunkRow). Refuses (ground_of c o) (places_of c.commands c.inputs) fault) same g.refuses in
+      stands_or_refuses (ground_of c f.order) (places_of c.commands c.inputs) s fault f.stands refuses
 
   ends_or_fits : (p : Layout) (fault : Fault) → Fits c p → EndFault c fault → ⊥
   ends_or_fits p fault f g =
       let states = laid_once f.state g.state f.laid g.laid in
-      let both : Ok f.found ≡ Err fault = sym f.finishes ∙ ap (λ (u : State). final_symbols (scope_of c) u.known (places_of c.tree c.inputs)) states ∙ g.refused in
+      let both : Ok f.found ≡ Err fault = sym f.finishes ∙ ap (λ (u : State). final_symbols (scope_of c) u.known (places_of c.commands c.inputs)) states ∙ g.refused in
       cc
 
   pub plan_or_fault : (p : Layout) (fault : Fault) → Fits c p → FaultIn c fault → ⊥
@@ -60,13 +60,13 @@ module _ (c : Case) where
   refused_once : (fault other : Fault) → LayoutFault c fault → LayoutFault c other → other ≡ fault
   refused_once fault other f g =
       let same = orders_once g.order f.order g.ordered f.ordered in
-      let refuses = subst (λ (o : Chunk → List ChunkRow). Refuses (ground_of c o) (places_of c.tree c.inputs) other) same g.refuses in
-      refuses_once (ground_of c f.order) (places_of c.tree c.inputs) other fault refuses f.refuses
+      let refuses = subst (λ (o : Chunk → List ChunkRow). Refuses (ground_of c o) (places_of c.commands c.inputs) other) same g.refuses in
+      refuses_once (ground_of c f.order) (places_of c.commands c.inputs) other fault refuses f.refuses
 
   ended_once : (fault other : Fault) → EndFault c fault → EndFault c other → other ≡ fault
   ended_once fault other f g =
       let states = laid_once g.state f.state g.laid f.laid in
-      let both : Err other ≡ Err fault = sym g.refused ∙ ap (λ (u : State). final_symbols (scope_of c) u.known (places_of c.tree c.inputs)) states ∙ f.refused in
+      let both : Err other ≡ Err fault = sym g.refused ∙ ap (λ (u : State). final_symbols (scope_of c) u.known (places_of c.commands c.inputs)) states ∙ f.refused in
       cc
 
   pub faults_once : (fault other : Fault) → FaultIn c fault → FaultIn c other → other ≡ fault

@@ -1,5 +1,5 @@
 -- What is checked before a script and its rows are laid out.
-use Rattle.std.specs.Prelude.{ℕ, ◌+◌, Bool, true, false, not, ◌&&◌, nat_le, List, [], ◌∷◌, ◌++◌, Option, Some, None, slice_get}
+use Rattle.std.specs.Prelude.{ℕ, ◌+◌, Bool, true, false, not, ◌&&◌, ◌==◌, length, nat_le, List, [], ◌∷◌, ◌++◌, Option, Some, None, slice_get}
 use Rattle.std.specs.Option.{option_map, is_some}
 use Rattle.std.specs.Result.{is_ok}
 use Rattle.std.specs.List.{find, list_any}
@@ -10,8 +10,9 @@ use Rattle.wild_names.specs.declared.fault.Fault.{Fault}
 use Rattle.wild_names.specs.declared.fault.Fault.TheVariants.{BadRow, BadSymbolRow, BadPattern, DuplicateSection, DuplicateSymbol, Unsupported}
 use Rattle.wild_names.specs.declared.input_flags.InputFlags.{InputFlags}
 use Rattle.wild_rules.specs.Making.{names_of as patterns_of, files_of}
-use Rattle.wild_script.specs.declared.tree.LinkerScript.{LinkerScript}
-use Rattle.wild_script.specs.declared.tree.SectionPattern.{SectionPattern}
+use Rattle.wild_script_tree.specs.declared.tree.Command.{Command}
+use Rattle.wild_script_tree.specs.declared.tree.Section.{Section}
+use Rattle.wild_script_tree.specs.declared.tree.SectionPattern.{SectionPattern}
 use Rattle.wild_plan_spec.specs.declared.chunk.Kept.{Kept}
 use Rattle.wild_plan_spec.specs.declared.row.InputRow.{InputRow}
 use Rattle.wild_plan_spec.specs.declared.row.InputTable.{InputTable}
@@ -21,9 +22,9 @@ use Rattle.wild_plan_spec.specs.Built.{is_built}
 use Rattle.wild_plan_spec.specs.Case.{Case}
 use Rattle.wild_plan_spec.specs.Definitions.{entry_names, firm_entries}
 use Rattle.wild_plan_spec.specs.Fates.{names_of, fates_of}
-use Rattle.wild_plan_spec.specs.Places.{Place, SetLocation, Wait, Collect, Task, Assign, Provide, Locate, Check as Condition, script_places}
+use Rattle.wild_plan_spec.specs.Places.{Place, SetLocation, Wait, Open, Collect, Discard, Unbuilt, Task, Assign, Provide, Locate, Check as Condition, script_places}
 use Rattle.wild_plan_spec.specs.Orphans.{places_of}
-use Rattle.wild_plan_spec.specs.Statements.{sections_of}
+use Rattle.wild_plan_spec.specs.Statements.{is_plain, sections_of}
 
 -- a condition, and the fault that stands for its failure
 pub record Check : Type 0 where
@@ -64,10 +65,18 @@ is_task_built (Provide d) = is_built true d.value
 is_task_built (Locate address) = is_built true address
 is_task_built (Condition c) = is_built true c.expression
 
+-- a section has a name, and nothing else is said of it; an orphan is one
+abbrev pub is_section_built : Option Section → Bool
+is_section_built None = true
+is_section_built (Some x) = not (length x.output_section_name == 0) && is_plain x
+
 -- where the location counter is laid out, names are not built
 abbrev pub is_place_built : Place → Bool
 is_place_built (SetLocation e) = is_built false e
 is_place_built (Wait w task) = is_task_built task
+is_place_built (Open s x) = is_section_built x
+is_place_built (Discard x) = is_plain x
+is_place_built Unbuilt = false
 is_place_built p = true
 
 -- the file pattern of place n, if it has one, has a reading
@@ -89,7 +98,7 @@ abbrev pub matcher_checks : ℕ → Place → List Check
 matcher_checks n (Collect q m) = pattern_checks n m.input_file_pattern m.input_section_name_patterns
 matcher_checks n p = []
 
--- what is checked of place n: its patterns, and then that its expression, if it has one, is built
+-- what is checked of place n: its patterns, and then that what stands there is built
 abbrev pub checks_at : ℕ → Place → List Check
 checks_at n p = matcher_checks n p ++ check (is_place_built p) (Unsupported n)
 
@@ -125,19 +134,19 @@ support_checks n (row ∷ rows) (fate ∷ fates) = check (is_supported fate row.
 -- ---- all checks
 
 -- what is checked of a script alone: its places, then that no two sections have one name
-abbrev pub script_checks : LinkerScript → List Check
+abbrev pub script_checks : List Command → List Check
 script_checks t = place_checks 0 (script_places t) ++ name_checks DuplicateSection [] (names_of (sections_of t))
 
 -- no two definitions that must not stand twice have one name
 abbrev pub symbol_name_checks : Case → List Check
-symbol_name_checks c = name_checks DuplicateSymbol [] (entry_names (firm_entries (fates_of c.tree c.inputs) c.inputs.symbols (places_of c.tree c.inputs)))
+symbol_name_checks c = name_checks DuplicateSymbol [] (entry_names (firm_entries (fates_of c.commands c.inputs) c.inputs.symbols (places_of c.commands c.inputs)))
 
 -- the conditions, in the order in which they are looked at
 abbrev pub checks : Case → List Check
 checks c = table_checks c.inputs
-    ++ (script_checks c.tree
+    ++ (script_checks c.commands
     ++ (symbol_name_checks c
-    ++ support_checks 0 c.inputs.rows (fates_of c.tree c.inputs)))
+    ++ support_checks 0 c.inputs.rows (fates_of c.commands c.inputs)))
 
 -- the fault of the first condition that fails
 abbrev pub failing : List Check → Option Fault

@@ -7,7 +7,7 @@ use Rattle.wild_value_spec.specs.Known.{Known}
 use Rattle.wild_value_spec.specs.Scope.{Scope}
 use Rattle.wild_value_spec.specs.Value.{assert_statement}
 use Rattle.wild_plan_spec.specs.declared.place.Where.{Where}
-use Rattle.wild_plan_spec.specs.Places.{Place, SetLocation, Wait, Open, Collect, Rows, Close, Idle, Task, Assign, Provide, Locate, Check}
+use Rattle.wild_plan_spec.specs.Places.{Place, SetLocation, Wait, Open, Collect, Rows, Close, Discard, Idle, Unbuilt, Task, Assign, Provide, Locate, Check}
 use Rattle.wild_plan_spec.specs.Points.{task_point}
 
 module _ (scope : Scope) (known : Known) where
@@ -26,11 +26,13 @@ module _ (scope : Scope) (known : Known) where
   unfoldable pub place_holds : ℕ → Place → Result (Unit {0}) Fault
   place_holds i (Wait w task) = task_holds i w task
   place_holds i (SetLocation e) = Ok tt
-  place_holds i (Open s) = Ok tt
+  place_holds i (Open s x) = Ok tt
   place_holds i (Collect q m) = Ok tt
   place_holds i (Rows q) = Ok tt
   place_holds i (Close s rest) = Ok tt
+  place_holds i (Discard x) = Ok tt
   place_holds i Idle = Ok tt
+  place_holds i Unbuilt = Ok tt
 
   -- in text order; the first place of the list has the number i
   abbrev pub conditions : ℕ → List Place → Result (Unit {0}) Fault

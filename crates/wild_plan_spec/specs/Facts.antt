@@ -4,7 +4,7 @@ use Rattle.std.specs.List.{list_any}
 use Rattle.std.specs.Option.{unwrap_or}
 use Rattle.wild_names.specs.InputFlags.{is_write, is_exec}
 use Rattle.wild_names.specs.declared.input_flags.InputFlags.{InputFlags}
-use Rattle.wild_script.specs.declared.tree.LinkerScript.{LinkerScript}
+use Rattle.wild_script_tree.specs.declared.tree.Command.{Command}
 use Rattle.wild_plan_spec.specs.declared.chunk.Kept.{Kept}
 use Rattle.wild_plan_spec.specs.declared.row.InputRow.{InputRow}
 use Rattle.wild_plan_spec.specs.declared.row.InputTable.{InputTable}
@@ -33,7 +33,7 @@ facts_from rows fates s [] = []
 facts_from rows fates s (x ∷ xs) = section_facts x (section_rows s rows fates) ∷ facts_from rows fates (s + 1) xs
 
 -- of all sections, by their numbers
-abbrev pub facts_of : LinkerScript → InputTable → List Facts
+abbrev pub facts_of : List Command → InputTable → List Facts
 facts_of t inputs = facts_from inputs.rows (fates_of t inputs) 0 (section_names t inputs)
 
 -- of the section of this number; where there is none, of one without name and rows

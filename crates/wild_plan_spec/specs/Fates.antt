@@ -3,8 +3,8 @@ use Rattle.std.specs.Prelude.{ℕ, Bool, false, not, List, [], ◌∷◌, ◌++�
 use Rattle.std.specs.List.{filter, list_any}
 use Rattle.wild_names.specs.InputFlags.{is_exclude}
 use Rattle.wild_numbering.specs.Numbering.{is_named, number_of}
-use Rattle.wild_script.specs.declared.tree.LinkerScript.{LinkerScript}
-use Rattle.wild_script.specs.declared.tree.Section.{Section}
+use Rattle.wild_script_tree.specs.declared.tree.Command.{Command}
+use Rattle.wild_script_tree.specs.declared.tree.Section.{Section}
 use Rattle.wild_plan_spec.specs.declared.chunk.Kept.{Kept}
 use Rattle.wild_plan_spec.specs.declared.chunk.Decision.{Decision}
 use Rattle.wild_plan_spec.specs.declared.chunk.Decision.TheVariants.{Discard, Keep, ByName}
@@ -62,11 +62,11 @@ names_of [] = []
 names_of (s ∷ ss) = s.output_section_name ∷ names_of ss
 
 -- the orphan sections: rows go by their names, and no section of the script has them
-abbrev pub orphans_of : LinkerScript → InputTable → List Name
+abbrev pub orphans_of : List Command → InputTable → List Name
 orphans_of t inputs = orphans (names_of (sections_of t)) (names_asked (rules_of t) inputs.rows)
 
 -- the names of all sections, by their numbers: those of the script, and after them the orphans
-abbrev pub section_names : LinkerScript → InputTable → List Name
+abbrev pub section_names : List Command → InputTable → List Name
 section_names t inputs = names_of (sections_of t) ++ orphans_of t inputs
 
 -- ---- fates
@@ -92,5 +92,5 @@ all_fates rules names [] = []
 all_fates rules names (row ∷ rows) = fate rules names row ∷ all_fates rules names rows
 
 -- the fate of each row, in table order
-abbrev pub fates_of : LinkerScript → InputTable → List (Option Kept)
+abbrev pub fates_of : List Command → InputTable → List (Option Kept)
 fates_of t inputs = all_fates (rules_of t) (section_names t inputs) inputs.rows

@@ -17,4 +17,4 @@ pub record Ground : Type 0 where
 
 -- of a case, where the rows of each chunk are in this order
 abbrev pub ground_of : Case → (Chunk → List ChunkRow) → Ground
-ground_of c order = record { scope = scope_of c; rows = order; facts = λ s. facts_at (facts_of c.tree c.inputs) s }
+ground_of c order = record { scope = scope_of c; rows = order; facts = λ s. facts_at (facts_of c.commands c.inputs) s }

@@ -1,6 +1,6 @@
 -- What a plan lists.
 use Rattle.std.specs.Prelude.{ℕ, ◌+◌, ◌-◌, true, List, [], ◌∷◌, ◌++◌, Option, Some, None}
-use Rattle.wild_script.specs.declared.tree.LinkerScript.{LinkerScript}
+use Rattle.wild_script_tree.specs.declared.tree.Command.{Command}
 use Rattle.wild_plan_spec.specs.declared.chunk.Kept.{Kept}
 use Rattle.wild_plan_spec.specs.declared.row.InputRow.{InputRow}
 use Rattle.wild_plan_spec.specs.declared.placed.PlacedSection.{PlacedSection}
@@ -18,7 +18,8 @@ use Rattle.wild_plan_spec.specs.Symbols.{table_symbols}
 
 -- a plan, as callers see it
 pub record Layout : Type 0 where
-  pub script : LinkerScript
+  -- those of its script, in text order
+  pub commands : List Command
   -- in order
   pub sections : List PlacedSection
   -- in table order
@@ -67,10 +68,10 @@ row_names (row ∷ rows) = record { file = row.file; «section» = row.«section
 -- what is listed of a case where this stands after the last place, and these are the symbols of the script
 abbrev pub layout : Case → State → List PlacedSymbol → Layout
 layout c state found = record {
-  script = c.tree;
-  sections = placed_sections state.known 0 (facts_of c.tree c.inputs);
-  placements = placed_inputs state.known 0 (fates_of c.tree c.inputs);
+  commands = c.commands;
+  sections = placed_sections state.known 0 (facts_of c.commands c.inputs);
+  placements = placed_inputs state.known 0 (fates_of c.commands c.inputs);
   locations = state.locations;
-  symbols = table_symbols state.known (fates_of c.tree c.inputs) c.inputs.symbols ++ found;
+  symbols = table_symbols state.known (fates_of c.commands c.inputs) c.inputs.symbols ++ found;
   names = row_names c.inputs.rows;
 }

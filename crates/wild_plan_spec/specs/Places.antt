@@ -2,16 +2,15 @@
 use Rattle.std.specs.Prelude.{ℕ, ◌+◌, List, [], ◌∷◌, ◌++◌, if◌then◌else◌, Option, Some, None}
 use Rattle.wild_expression_tree.specs.declared.tree.AssertCommand.{AssertCommand}
 use Rattle.wild_expression_tree.specs.declared.tree.Expression.{Expression}
-use Rattle.wild_script.specs.declared.tree.LinkerScript.{LinkerScript}
-use Rattle.wild_script.specs.declared.tree.Command.{Command}
-use Rattle.wild_script.specs.declared.tree.Command.TheVariants as command
-use Rattle.wild_script.specs.declared.tree.ProvideSymbolDefinition.{ProvideSymbolDefinition}
-use Rattle.wild_script.specs.declared.tree.Section.{Section}
-use Rattle.wild_script.specs.declared.tree.SectionCommand.{SectionCommand}
-use Rattle.wild_script.specs.declared.tree.SectionCommand.TheVariants as inner
-use Rattle.wild_script.specs.declared.tree.ContentsCommand.{ContentsCommand}
-use Rattle.wild_script.specs.declared.tree.ContentsCommand.TheVariants.{Matcher as OfMatcher}
-use Rattle.wild_script.specs.declared.tree.Matcher.{Matcher}
+use Rattle.wild_script_tree.specs.declared.tree.Command.{Command}
+use Rattle.wild_script_tree.specs.declared.tree.Command.TheVariants as command
+use Rattle.wild_script_tree.specs.declared.tree.ProvideSymbolDefinition.{ProvideSymbolDefinition}
+use Rattle.wild_script_tree.specs.declared.tree.Section.{Section}
+use Rattle.wild_script_tree.specs.declared.tree.SectionCommand.{SectionCommand}
+use Rattle.wild_script_tree.specs.declared.tree.SectionCommand.TheVariants as inner
+use Rattle.wild_script_tree.specs.declared.tree.ContentsCommand.{ContentsCommand}
+use Rattle.wild_script_tree.specs.declared.tree.ContentsCommand.TheVariants.{Matcher as OfMatcher}
+use Rattle.wild_script_tree.specs.declared.tree.Matcher.{Matcher}
 use Rattle.wild_plan_spec.specs.declared.chunk.Chunk.{Chunk}
 use Rattle.wild_plan_spec.specs.declared.place.Where.{Where}
 use Rattle.wild_plan_spec.specs.declared.place.Where.TheVariants.{Outermost, Between}
@@ -35,39 +34,59 @@ pub data Place : Type 0 where
   SetLocation : Expression → Place
   -- a task, which waits until all places are laid out
   Wait : Where → Task → Place
-  -- the section of this number begins
-  Open : ℕ → Place
+  -- the section of this number begins: one of the script, or an orphan
+  Open : ℕ → Option Section → Place
   -- a matcher, with the rows of the chunk for which it collects; those of `/DISCARD/` collect for none
   Collect : Option Chunk → Matcher → Place
   -- the rows of the one chunk of an orphan
   Rows : Chunk → Place
   -- the rest of the section of this number is placed, where it has a chunk of its own, and the section ends
   Close : ℕ → Option Chunk → Place
-  -- `/DISCARD/` begins or ends, which does nothing
+  -- `/DISCARD/` begins, which does nothing
+  Discard : Section → Place
+  -- `/DISCARD/` ends, or a command stands here that does nothing
   Idle : Place
+  -- a statement or a command whose meaning is not built yet
+  Unbuilt : Place
+
+-- a statement of section s, whose chunk, if it is a matcher, has this number
+abbrev pub content_place : ℕ → ℕ → ContentsCommand → Place
+content_place s number (OfMatcher m) = Collect (Some (record { «section» = s; number = number })) m
+content_place s number c = Unbuilt
+
+-- the number of the next chunk after a statement
+abbrev pub next_chunk : ℕ → ContentsCommand → ℕ
+next_chunk number (OfMatcher m) = number + 1
+next_chunk number c = number
 
 -- the statements of section s, whose next chunk has this number
 abbrev pub contents_places : ℕ → ℕ → List ContentsCommand → List Place
 contents_places s number [] = []
-contents_places s number (OfMatcher m ∷ cs) = Collect (Some (record { «section» = s; number = number })) m ∷ contents_places s (number + 1) cs
+contents_places s number (c ∷ cs) = content_place s number c ∷ contents_places s (next_chunk number c) cs
 
 -- a section without matchers has a chunk of its own for what joins it by name
 abbrev pub rest_chunk : ℕ → List ContentsCommand → Option Chunk
 rest_chunk s [] = Some (record { «section» = s; number = 0 })
 rest_chunk s (OfMatcher m ∷ cs) = None
+rest_chunk s (c ∷ cs) = rest_chunk s cs
 
 -- section s begins, its statements, and it ends
 abbrev pub section_places : ℕ → Section → List Place
-section_places s x = Open s ∷ (contents_places s 0 x.commands ++ Close s (rest_chunk s x.commands) ∷ [])
+section_places s x = Open s (Some x) ∷ (contents_places s 0 x.commands ++ Close s (rest_chunk s x.commands) ∷ [])
 
--- the statements of `/DISCARD/`
+-- a statement of `/DISCARD/`
+abbrev pub discarding_place : ContentsCommand → Place
+discarding_place (OfMatcher m) = Collect None m
+discarding_place c = Unbuilt
+
+-- its statements
 abbrev pub discarding_places : List ContentsCommand → List Place
 discarding_places [] = []
-discarding_places (OfMatcher m ∷ cs) = Collect None m ∷ discarding_places cs
+discarding_places (c ∷ cs) = discarding_place c ∷ discarding_places cs
 
 -- `/DISCARD/` begins, its statements, and it ends
 abbrev pub discard_places : Section → List Place
-discard_places x = Idle ∷ (discarding_places x.commands ++ Idle ∷ [])
+discard_places x = Discard x ∷ (discarding_places x.commands ++ Idle ∷ [])
 
 -- a statement in SECTIONS, whose section, if it is one, has the number s
 abbrev pub inner_places : ℕ → SectionCommand → List Place
@@ -83,6 +102,15 @@ outer_places (command.SymbolDefinition name value) = Wait Outermost (Assign name
 outer_places (command.SetLocation l) = Wait Outermost (Locate l.address) ∷ []
 outer_places (command.Provide d) = Wait Outermost (Provide d) ∷ []
 outer_places (command.Assert c) = Wait Outermost (Check c) ∷ []
+outer_places (command.Arg name) = Idle ∷ []
+outer_places (command.Group' shape cs) = Idle ∷ []
+outer_places (command.AsNeeded' shape cs) = Idle ∷ []
+outer_places command.Ignored = Idle ∷ []
+outer_places (command.Entry name) = Idle ∷ []
+outer_places (command.Version content) = Idle ∷ []
+outer_places (command.Memory regions) = Unbuilt ∷ []
+outer_places (command.Phdrs headers) = Unbuilt ∷ []
+outer_places (command.OutputFormat format) = Unbuilt ∷ []
 outer_places (command.Sections s) = []
 
 -- the places of a statement, whose section, if it is one, has the number s
@@ -101,5 +129,5 @@ all_places s [] = []
 all_places s (st ∷ sts) = statement_places s st ++ all_places (next_section s st) sts
 
 -- in text order
-abbrev pub script_places : LinkerScript → List Place
+abbrev pub script_places : List Command → List Place
 script_places t = all_places 0 (statements_of t)

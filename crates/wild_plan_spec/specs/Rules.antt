@@ -6,8 +6,8 @@ use Rattle.wild_rules.specs.declared.fault.RuleFault.{RuleFault}
 use Rattle.wild_rules.specs.declared.matcher.SectionNameMatcher.{SectionNameMatcher}
 use Rattle.wild_rules.specs.Making.{names_of, files_of}
 use Rattle.wild_rules.specs.Taking.{takes_name, takes_file}
-use Rattle.wild_script.specs.declared.tree.LinkerScript.{LinkerScript}
-use Rattle.wild_script.specs.declared.tree.SectionPattern.{SectionPattern}
+use Rattle.wild_script_tree.specs.declared.tree.Command.{Command}
+use Rattle.wild_script_tree.specs.declared.tree.SectionPattern.{SectionPattern}
 use Rattle.wild_plan_spec.specs.declared.chunk.Chunk.{Chunk}
 use Rattle.wild_plan_spec.specs.declared.chunk.Decision.{Decision}
 use Rattle.wild_plan_spec.specs.declared.chunk.Decision.TheVariants.{Discard, Keep}
@@ -48,7 +48,7 @@ rules_in [] = []
 rules_in (p ∷ ps) = place_rules p ++ rules_in ps
 
 -- the rules of a script, in text order
-abbrev pub rules_of : LinkerScript → List Rule
+abbrev pub rules_of : List Command → List Rule
 rules_of t = rules_in (script_places t)
 
 -- the rule takes a row, by its section and its file

@@ -1,13 +1,12 @@
 -- What a script and its table say of sections and symbols.
 use Rattle.std.specs.Prelude.{List}
 use Rattle.wild_numbering.specs.Numbering.{number_of}
-use Rattle.wild_script.specs.Tree.{Bytes}
 use Rattle.wild_value_spec.specs.Scope.{Scope, line_of}
 use Rattle.wild_plan_spec.specs.Case.{Case}
 use Rattle.wild_plan_spec.specs.Definitions.{SymbolEntry, all_entries, definitions_in, entry_names}
 use Rattle.wild_plan_spec.specs.Facts.{Facts, facts_at, facts_of}
 use Rattle.wild_plan_spec.specs.Fates.{section_names, fates_of}
-use Rattle.wild_plan_spec.specs.Names.{Name}
+use Rattle.wild_plan_spec.specs.Names.{Bytes, Name}
 use Rattle.wild_plan_spec.specs.Orphans.{places_of}
 
 -- sections of these names and facts, which are numbered in order from 0, and symbols of these names and definitions
@@ -23,8 +22,8 @@ scope_with names facts entries script = record {
 
 -- the definitions of the symbols of a case
 abbrev pub entries_of : Case → List SymbolEntry
-entries_of c = all_entries (fates_of c.tree c.inputs) c.inputs.symbols (places_of c.tree c.inputs)
+entries_of c = all_entries (fates_of c.commands c.inputs) c.inputs.symbols (places_of c.commands c.inputs)
 
 -- what a case says
 abbrev pub scope_of : Case → Scope
-scope_of c = scope_with (section_names c.tree c.inputs) (facts_of c.tree c.inputs) (entries_of c) c.script
+scope_of c = scope_with (section_names c.commands c.inputs) (facts_of c.commands c.inputs) (entries_of c) c.script

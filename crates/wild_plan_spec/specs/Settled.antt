@@ -2,7 +2,7 @@
 use Rattle.std.specs.Prelude.{◌≡◌, ◌≢◌, ℕ, Bool, true, false, List, [], ◌∷◌, Some, Ok, slice_get}
 use Rattle.wild_expression_tree.specs.declared.tree.AssertCommand.{AssertCommand}
 use Rattle.wild_expression_tree.specs.declared.tree.Expression.{Expression}
-use Rattle.wild_script.specs.declared.tree.ProvideSymbolDefinition.{ProvideSymbolDefinition}
+use Rattle.wild_script_tree.specs.declared.tree.ProvideSymbolDefinition.{ProvideSymbolDefinition}
 use Rattle.wild_value_spec.specs.declared.value.Point.{Point}
 use Rattle.wild_value_spec.specs.declared.value.Value.{Value}
 use Rattle.wild_value_spec.specs.Known.{Known}
@@ -29,7 +29,7 @@ module _ (c : Case) (known : Known) (plan : Layout) where
 
   -- place i
   abbrev pub IsPlace : ℕ → Place → Type 0
-  IsPlace i p = slice_get (places_of c.tree c.inputs) i ≡ Some p
+  IsPlace i p = slice_get (places_of c.commands c.inputs) i ≡ Some p
 
   -- the location counter that place i sets is listed, and is what its expression is worth
   pub record LocationSettles (i : ℕ) (e : Expression) : Type 0 where

@@ -13,7 +13,7 @@ use Rattle.wild_plan_spec.specs.declared.placed.PlacedLocation.{PlacedLocation}
 use Rattle.wild_plan_spec.specs.Chunks.{largest}
 use Rattle.wild_plan_spec.specs.Ground.{Ground}
 use Rattle.wild_plan_spec.specs.Overlaps.{lowest_sharing}
-use Rattle.wild_plan_spec.specs.Places.{Place, SetLocation, Wait, Open, Collect, Rows, Close, Idle}
+use Rattle.wild_plan_spec.specs.Places.{Place, SetLocation, Wait, Open, Collect, Rows, Close, Discard, Idle, Unbuilt}
 use Rattle.wild_plan_spec.specs.Points.{location_point}
 
 -- what stands before a place
@@ -111,11 +111,13 @@ module _ (ground : Ground) where
   unfoldable pub effect : ℕ → Place → State → Result State Fault
   effect i (SetLocation e) st = location_set i e st
   effect i (Wait w task) st = Ok st
-  effect i (Open s) st = section_opened s st
+  effect i (Open s x) st = section_opened s st
   effect i (Collect q m) st = chunk_collected q st
   effect i (Rows q) st = chunk_placed (ground.rows q) st
   effect i (Close s rest) st = section_closed s rest st
+  effect i (Discard x) st = Ok st
   effect i Idle st = Ok st
+  effect i Unbuilt st = Ok st
 
   -- what stands after place i, or its refusal
   unfoldable pub step : ℕ → Place → State → Result State Fault

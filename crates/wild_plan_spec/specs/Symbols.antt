@@ -3,7 +3,7 @@ use Rattle.std.specs.Prelude.{ℕ, ◌+◌, Bool, false, ◌==◌, if◌then◌e
 use Rattle.std.specs.Option.{option_to_list}
 use Rattle.wild_names.specs.declared.fault.Fault.{Fault}
 use Rattle.wild_expression_tree.specs.declared.tree.Expression.{Expression}
-use Rattle.wild_script.specs.declared.tree.ProvideSymbolDefinition.{ProvideSymbolDefinition}
+use Rattle.wild_script_tree.specs.declared.tree.ProvideSymbolDefinition.{ProvideSymbolDefinition}
 use Rattle.wild_value_spec.specs.Answer.{◌>>=◌}
 use Rattle.wild_value_spec.specs.Known.{Known, Address, number_at}
 use Rattle.wild_value_spec.specs.Scope.{Definition, OfScript, Scope, definition_of}
@@ -15,7 +15,7 @@ use Rattle.wild_plan_spec.specs.declared.place.Where.{Where}
 use Rattle.wild_plan_spec.specs.declared.row.SymbolRow.{SymbolRow}
 use Rattle.wild_plan_spec.specs.Definitions.{symbol_chunk}
 use Rattle.wild_plan_spec.specs.Names.{Name}
-use Rattle.wild_plan_spec.specs.Places.{Place, SetLocation, Wait, Open, Collect, Rows, Close, Idle, Task, Assign, Provide, Locate, Check}
+use Rattle.wild_plan_spec.specs.Places.{Place, SetLocation, Wait, Open, Collect, Rows, Close, Discard, Idle, Unbuilt, Task, Assign, Provide, Locate, Check}
 use Rattle.wild_plan_spec.specs.Points.{task_point}
 
 -- ---- of the table
@@ -71,11 +71,13 @@ module _ (scope : Scope) (known : Known) where
   unfoldable pub place_symbol : ℕ → Place → Result (Option PlacedSymbol) Fault
   place_symbol i (Wait w task) = task_symbol i w task
   place_symbol i (SetLocation e) = Ok None
-  place_symbol i (Open s) = Ok None
+  place_symbol i (Open s x) = Ok None
   place_symbol i (Collect q m) = Ok None
   place_symbol i (Rows q) = Ok None
   place_symbol i (Close s rest) = Ok None
+  place_symbol i (Discard x) = Ok None
   place_symbol i Idle = Ok None
+  place_symbol i Unbuilt = Ok None
 
   -- those of the places, in text order; the first place of the list has the number i
   abbrev pub symbols : ℕ → List Place → Result (List PlacedSymbol) Fault

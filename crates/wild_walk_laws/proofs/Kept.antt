@@ -8,8 +8,8 @@ use Rattle.wild_glob.specs.declared.piece.Piece.{Piece}
 use Rattle.wild_rules.specs.declared.fault.RuleFault.{RuleFault}
 use Rattle.wild_rules.specs.declared.matcher.SectionNameMatcher.{SectionNameMatcher}
 use Rattle.wild_rules.specs.Making as making
-use Rattle.wild_script.specs.declared.tree.LinkerScript.{LinkerScript}
-use Rattle.wild_script.specs.declared.tree.SectionPattern.{SectionPattern}
+use Rattle.wild_script_tree.specs.declared.tree.Command.{Command}
+use Rattle.wild_script_tree.specs.declared.tree.SectionPattern.{SectionPattern}
 use Rattle.wild_value_spec.specs.Known.{Address}
 use Rattle.wild_plan_spec.specs.declared.chunk.Chunk.{Chunk}
 use Rattle.wild_plan_spec.specs.declared.chunk.ChunkRow.{ChunkRow}
@@ -87,7 +87,7 @@ module _ (k : Kept) where
 
 -- ---- rows that are kept
 
-module _ (t : LinkerScript) (inputs : InputTable) where
+module _ (t : List Command) (inputs : InputTable) where
   abbrev HasPlace : Chunk → Type 0
   HasPlace q = Has (Lays q) (places_of t inputs)
 
@@ -164,12 +164,12 @@ module _ (r : ℕ) where
     unfolding step
     step_addressed i p st next lays goes = effect_addressed i p (dot_noted i p st) next lays goes
 
-pub kept_rows_have_addresses : (c : Case) (state : State) → IsLaid c state → (r : ℕ) (k : Kept) → slice_get (fates_of c.tree c.inputs) r ≡ Some (Some k) → IsKnown state.known (Address r)
+pub kept_rows_have_addresses : (c : Case) (state : State) → IsLaid c state → (r : ℕ) (k : Kept) → slice_get (fates_of c.commands c.inputs) r ≡ Some (Some k) → IsKnown state.known (Address r)
 kept_rows_have_addresses c state f r k fate =
-    let places = places_of c.tree c.inputs in
+    let places = places_of c.commands c.inputs in
     let ground = ground_of c f.order in
-    let laid = kept_lays c.tree c.inputs r k fate in
-    let among = kept_among c.inputs.rows (fates_of c.tree c.inputs) k.chunk (f.order k.chunk) (f.ordered k.chunk) r laid.row k laid.there fate refl in
+    let laid = kept_lays c.commands c.inputs r k fate in
+    let among = kept_among c.inputs.rows (fates_of c.commands c.inputs) k.chunk (f.order k.chunk) (f.ordered k.chunk) r laid.row k laid.there fate refl in
     let found = has_there (Lays k.chunk) places laid.place in
     let low : found.0 < length places = slice_get_within places found.0 found.1 found.2 in
     address_stays r (f.stands.before (found.0 + 1)) state

@@ -97,7 +97,7 @@ module _ (rows : List InputRow) (fates : List (Option Kept)) where
 pub rows_stand_in_place : (c : Case) (state : State) → IsLaid c state → StandInPlace c.inputs.rows state.known
 rows_stand_in_place c state f =
     let rows = c.inputs.rows in
-    let fates = fates_of c.tree c.inputs in
+    let fates = fates_of c.commands c.inputs in
     laid_walked c state f (λ z st. StandInPlace rows st.known)
     (record {
       noted = λ z i n st h. stays rows fates st.known (noted_at i n st).known (λ r. other_entry (Dot i) n st.known (Address r) refl) h;

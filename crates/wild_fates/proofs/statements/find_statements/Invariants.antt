@@ -1,7 +1,7 @@
 use Rattle.std.proofs.Common.{◌≡◌, ◌++◌, drop}
-use Rattle.wild_plan_spec.specs.Statements.{all_statements}
+use Rattle.wild_plan_spec.specs.Statements.{statements_of}
 use Rattle.wild_fates.specs.Shown.{shown_statements}
 use Rattle.wild_fates.proofs.statements.find_statements.Given as goal
 
 abbrev pub invariant-loop-command : goal.invariant-loop-command
-invariant-loop-command l = shown_statements l.statements ++ all_statements (drop l.command-index l.script.commands) ≡ all_statements l.script.commands
+invariant-loop-command l = shown_statements l.statements ++ statements_of (drop l.command-index l.commands) ≡ statements_of l.commands
