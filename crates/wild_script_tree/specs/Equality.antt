@@ -1,5 +1,5 @@
 -- When commands, statements and what is in them are equal: all their fields are, in order, but for the positions of ASSERTs.
-use Rattle.std.specs.Prelude.{◌≡◌, ℕ, Bool, true, false, ◌&&◌, List, [], ◌∷◌}
+use Rattle.std.specs.Prelude.{◌≡◌, Bool, true, false, ◌&&◌, List, [], ◌∷◌}
 use Rattle.std.specs.Option.{option_eq}
 use Rattle.std.specs.Cmp.{IsEquivalence, on_equiv, and_equiv}
 use Rattle.std.specs.Cmp.Lexicographic.{pointwise, lists_equiv, options_equiv, nat_list_eq_equiv}
@@ -45,30 +45,39 @@ use Rattle.wild_script_tree.specs.declared.tree.Command.TheFolds.{fold-Command, 
 
 -- ---- what is derived: all fields, in order
 
+-- two statements about the location counter
 abbrev pub same_location : Location → Location → Bool
 same_location = (location.ghosts).eq
 
+-- two symbols and what they become
 abbrev pub same_assignment : SymbolAssignment → SymbolAssignment → Bool
 same_assignment = (assignment.ghosts).eq
 
+-- the same of PROVIDE, and whether it hides
 abbrev pub same_provide : ProvideSymbolDefinition → ProvideSymbolDefinition → Bool
 same_provide = (provide.ghosts).eq
 
+-- two values between inputs
 abbrev pub same_fill : Fill → Fill → Bool
 same_fill = (fill.ghosts).eq
 
+-- two kinds that sections are said to be
 abbrev pub same_attributes : SectionAttributes → SectionAttributes → Bool
 same_attributes = (attributes.ghosts).eq
 
+-- two statements in a section
 abbrev pub same_contents : ContentsCommand → ContentsCommand → Bool
 same_contents = (contents.ghosts).eq
 
+-- two memory regions
 abbrev pub same_region : MemoryRegion → MemoryRegion → Bool
 same_region = (region.ghosts).eq
 
+-- two program headers
 abbrev pub same_phdr : Phdr → Phdr → Bool
 same_phdr = (phdr.ghosts).eq
 
+-- two output formats
 abbrev pub same_format : OutputFormat → OutputFormat → Bool
 same_format = (format.ghosts).eq
 
@@ -136,30 +145,30 @@ row_eq end end = true
 row_eq (row x r s) (row y t u) = (same_level x y && row_eq r t) && row_eq s u
 row_eq r s = false
 
--- a command without what it holds, and the row of what it holds
-abbrev pub Entry : Type 0
-Entry = Command-F Unit × Row
+-- an item of a row: a command without what it holds, and the row of what it holds
+abbrev pub Item : Type 0
+Item = Command-F Unit × Row
 
 -- these in a row
-abbrev pub in_row : List Entry → Row
+abbrev pub in_row : List Item → Row
 in_row [] = end
 in_row (x ∷ xs) = row x.0 x.1 (in_row xs)
 
 -- the same of one whose held commands are such
-abbrev pub entry_of : Command-F Entry → Entry
-entry_of x = (map-Command Entry Unit (λ e. tt) x, in_row (held x))
+abbrev pub item_of : Command-F Item → Item
+item_of x = (map-Command Item Unit (λ e. tt) x, in_row (held x))
 
 -- of a whole command
-abbrev pub entry : Command → Entry
-entry = fold-Command Entry entry_of
+abbrev pub item : Command → Item
+item = fold-Command Item item_of
 
 -- two of them
-abbrev pub same_entry : Entry → Entry → Bool
-same_entry = eq_of_both (on (λ e. e.0) same_level) (on (λ e. e.1) row_eq)
+abbrev pub same_item : Item → Item → Bool
+same_item = eq_of_both (on (λ e. e.0) same_level) (on (λ e. e.1) row_eq)
 
 -- two commands
 abbrev pub same_command : Command → Command → Bool
-same_command = on entry same_entry
+same_command = on item same_item
 
 -- two lists of commands
 abbrev pub same_commands : List Command → List Command → Bool
@@ -320,7 +329,7 @@ row_eq_equiv : IsEquivalence row_eq
 row_eq_equiv = record { refl = row_itself; symm = row_turned; congr = row_alike }
 
 pub same_command_equiv : IsEquivalence same_command
-same_command_equiv = on_equiv entry (and_equiv (on_equiv (λ (e : Entry). e.0) same_level_equiv) (on_equiv (λ (e : Entry). e.1) row_eq_equiv))
+same_command_equiv = on_equiv item (and_equiv (on_equiv (λ (e : Item). e.0) same_level_equiv) (on_equiv (λ (e : Item). e.1) row_eq_equiv))
 
 pub same_commands_equiv : IsEquivalence same_commands
 same_commands_equiv = lists_equiv same_command_equiv
