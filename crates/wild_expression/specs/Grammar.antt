@@ -333,13 +333,23 @@ value_of dialect inner l.Sum = sum_of dialect inner
 value_of dialect inner l.Product = product_of dialect inner
 value_of dialect inner l.Sign = sign_of dialect inner
 
--- ---- the knot: what is read one deeper is read in the same way; each word is the one above, in the first grammar
+-- ---- the knot: what is read one deeper is read in the same way
 
 -- an expression of a level, one deeper
+unfoldable pub inner_by : Dialect → Values
+inner_by dialect level = InsideAt (value_of dialect) level
+
+-- an expression of a level
+unfoldable pub value_by : Dialect → Values
+value_by dialect level = value_of dialect (InsideAt (value_of dialect)) level
+
+-- ---- each word from here on is the one above, in the first grammar
+
+-- see `inner_by`
 unfoldable pub inner_value : Values
 inner_value level = InsideAt (value_of first_grammar) level
 
--- an expression of a level
+-- see `value_by`
 unfoldable pub value : Values
 value level = value_of first_grammar (InsideAt (value_of first_grammar)) level
 

@@ -1,5 +1,5 @@
 -- A position further on has less ahead, and no fewer marks before it.
-use Rattle.std.proofs.Common.{◌≡◌, ℕ, ◌≤◌, ◌<◌, length, arith, true, false, Bool, refl, if◌then◌else◌}
+use Rattle.std.proofs.Common.{◌≡◌, ℕ, ◌+◌, ◌≤◌, ◌<◌, length, arith, true, false, Bool, refl, if◌then◌else◌}
 use Rattle.std.specs.Prelude.{not, ◌&&◌, Option, None}
 use Rattle.wild_reading.specs.Position.{Bytes, Text, ahead, mark_count}
 use Rattle.wild_reading.specs.Bytes.{begins, begins_comment}
@@ -17,6 +17,10 @@ ahead_less t i j k l h = omega arith
 pub ahead_shorter : (t : Text) (i j k l : ℕ) → i < j → j ≤ length t.bytes → ahead (record { text = t; at = j; left = k }) < ahead (record { text = t; at = i; left = l })
 unfolding ahead
 ahead_shorter t i j k l h w = omega arith
+
+pub ahead_by : (t : Text) (i k l n : ℕ) → i + n ≤ length t.bytes → ahead (record { text = t; at = i + n; left = l }) + n ≤ ahead (record { text = t; at = i; left = k })
+unfolding ahead
+ahead_by t i k l n h = omega (arith, h)
 
 -- as many marks as before, further on
 pub marks_stay : (b : Bytes) (i j n : ℕ) → n ≤ mark_count b i → i ≤ j → n ≤ mark_count b j
@@ -45,7 +49,7 @@ open_cause t (NestedSort position) h = absurd h
 open_cause t (TooDeep position) h = absurd h
 open_cause t NoMemory h = absurd h
 
-pub ruleset moves = (ahead_less, ahead_shorter, marks_stay, mark_count-rises)
+pub ruleset moves = (ahead_less, ahead_shorter, ahead_by, marks_stay, mark_count-rises)
 
 pub ruleset open_comments = (open_comment)
 

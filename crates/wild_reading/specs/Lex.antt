@@ -146,6 +146,44 @@ symbol c = do
   byte c
   gap
 
+-- after these bytes, if they are ahead
+unfoldable pub after_text : List ℕ → Bytes → ℕ → Option ℕ
+after_text t b i = if begins_with t b i then Some (i + length t) else None
+
+-- these bytes
+unfoldable pub text : List ℕ → Reader (Unit {0})
+text t = Passes (after_text t)
+
+-- these bytes and the gap after them
+unfoldable pub keyword : List ℕ → Reader (Unit {0})
+keyword t = do
+  text t
+  gap
+
+-- ---- what can be read ahead, as functions of bytes
+
+-- after this byte and the gap after it
+unfoldable pub after_symbol : ℕ → Bytes → ℕ → Option ℕ
+after_symbol c b i = if begins c b i then after_gap b (i + 1) else None
+
+-- the token at a position, and the position after it
+unfoldable pub token_at : Bytes → ℕ → Option (Word × ℕ)
+token_at b i = if begins 34 b i then quoted_at b (i + 1) else run_at k.Token b i
+
+-- with an end, if there is one
+abbrev pub and_end : {A : Type 0} → A → Option ℕ → Option (A × ℕ)
+and_end x None = None
+and_end x (Some end) = Some (x, end)
+
+-- the end moved to that of the gap after it
+abbrev pub and_gap : Bytes → Option (Word × ℕ) → Option (Word × ℕ)
+and_gap b None = None
+and_gap b (Some found) = and_end found.0 (after_gap b found.1)
+
+-- the token at a position, and the position after the gap after it
+unfoldable pub word_at : Bytes → ℕ → Option (Word × ℕ)
+word_at b i = and_gap b (token_at b i)
+
 -- after a byte, if it is ahead
 unfoldable pub after_optional : ℕ → Bytes → ℕ → Option ℕ
 after_optional c b i = if begins c b i then Some (i + 1) else Some i

@@ -1,6 +1,6 @@
 //! A cursor over bytes.
 
-ghost use Rattle.std.specs.Prelude.{◌≡◌, ◌≤◌, ◌<◌, ◌+◌, ◌^◌, length, true, OnOk};
+ghost use Rattle.std.specs.Prelude.{◌≡◌, ◌≤◌, ◌<◌, ◌+◌, ◌^◌, length, true, false, OnOk};
 ghost use Rattle.wild_reading.specs.Position.{ahead, is_mark, IsPaid, IsMarked};
 ghost use Rattle.wild_reading.specs.Bytes as spec;
 ghost use Rattle.wild_reading.specs.Lex as lexis;
@@ -8,6 +8,7 @@ ghost use Rattle.wild_reading.specs.Reader as readers;
 ghost use Rattle.wild_reading.specs.Family as family;
 ghost use Rattle.wild_reading.specs.Only.{Answers, IsOnly, Enters, Leaves};
 
+use crate::ahead::{quoted_at, run_at};
 use crate::classes::{Class, begins_run, run_end};
 use crate::lex;
 use crate::skipping::gap_end;
@@ -59,6 +60,16 @@ impl<'a> Model for Token<'a> {
 }
 
 impl<'a> Token<'a> {
+    /// A token without quotes.
+    pub fn plain(content: &'a [u8]) -> Token<'a>
+        ensures { result ≡ record { content = content.now; quoted = false } }
+    {
+        Token {
+            content,
+            quoted: false,
+        }
+    }
+
     /// A token in quotes, of the bytes between them.
     pub fn quoted(content: &'a [u8]) -> Token<'a>
         ensures { result ≡ record { content = content.now; quoted = true } }
@@ -135,6 +146,13 @@ impl<'a> Cursor<'a> {
         ensures { result ≡ spec.begins byte self.now.text.bytes self.now.at }
     {
         lex::begins(self.bytes, self.at, byte)
+    }
+
+    /// Whether these bytes are ahead.
+    pub fn begins_with(&self, text: &[u8]) -> bool
+        ensures { result ≡ spec.begins_with text.now self.now.text.bytes self.now.at }
+    {
+        lex::begins_with(self.bytes, self.at, text)
     }
 
     /// Whether a byte of the class is the next one.
@@ -236,35 +254,34 @@ impl<'a> Cursor<'a> {
     }
 
     /// Reads the longest run of the class, of one byte at least.
-    #[tactic(auto, using(crate::proofs::Readers::leaves, crate::proofs::Leaves::moves), unfolding(crate::specs::Lex::run, crate::specs::Lex::run_at))]
+    #[tactic(auto, using(crate::proofs::Readers::leaves, crate::proofs::Leaves::moves), unfolding(crate::specs::Lex::run))]
     pub fn run(&mut self, class: Class) -> Result<Token<'a>, Stop>
         ensures read { Answers (lexis.run class) self.old self.new result }
         ensures shorter { OnOk result (ahead self.new < ahead self.old) }
     {
-        let end = run_end(self.bytes, self.at, class);
-        if end == self.at {
-            return Err(Stop::Syntax { position: self.at });
+        match run_at(self.bytes, self.at, class) {
+            Some((token, end)) => {
+                self.at = end;
+                Ok(token)
+            }
+            None => Err(Stop::Syntax { position: self.at }),
         }
-        let content = &self.bytes[self.at..end];
-        self.at = end;
-        Ok(Token {
-            content,
-            quoted: false,
-        })
     }
 
     // What is in quotes, and the quote that closes.
-    #[tactic(auto, using(crate::proofs::Readers::leaves, crate::proofs::Leaves::moves), unfolding(crate::specs::Lex::quoted, crate::specs::Lex::quoted_at))]
+    #[tactic(auto, using(crate::proofs::Readers::leaves, crate::proofs::Leaves::moves), unfolding(crate::specs::Lex::quoted))]
     fn quoted(&mut self) -> Result<Token<'a>, Stop>
         ensures { Answers lexis.quoted self.old self.new result }
     {
-        let end = run_end(self.bytes, self.at, Class::Quotes);
-        if !lex::begins(self.bytes, end, b'"') {
-            return Err(Stop::Syntax { position: end });
+        match quoted_at(self.bytes, self.at) {
+            Some((token, end)) => {
+                self.at = end;
+                Ok(token)
+            }
+            None => Err(Stop::Syntax {
+                position: run_end(self.bytes, self.at, Class::Quotes),
+            }),
         }
-        let content = &self.bytes[self.at..end];
-        self.at = end + 1;
-        Ok(Token::quoted(content))
     }
 
     #[tactic(auto, using(crate::proofs::Readers::reading), unfolding(crate::specs::Lex::quoted_token))]
@@ -296,6 +313,30 @@ impl<'a> Cursor<'a> {
         ensures marked { is_mark byte ≡ true → OnOk result (IsMarked self.new) }
     {
         self.byte(byte)?;
+        self.gap()?;
+        Ok(())
+    }
+
+    /// Reads these bytes, and nothing after them.
+    #[tactic(auto, using(crate::proofs::Readers::leaves, crate::proofs::Leaves::moves), unfolding(crate::specs::Lex::text, crate::specs::Lex::after_text))]
+    pub fn text(&mut self, text: &[u8]) -> Result<(), Stop>
+        ensures read { Answers (lexis.text text.now) self.old self.new result }
+        ensures shorter { OnOk result (ahead self.new + length text.now ≤ ahead self.old) }
+    {
+        if !lex::begins_with(self.bytes, self.at, text) {
+            return Err(Stop::Syntax { position: self.at });
+        }
+        self.at += text.len();
+        Ok(())
+    }
+
+    /// Reads these bytes and the gap after them.
+    #[tactic(auto, using(crate::proofs::Readers::reading), unfolding(crate::specs::Lex::keyword))]
+    pub fn keyword(&mut self, text: &[u8]) -> Result<(), Stop>
+        ensures read { Answers (lexis.keyword text.now) self.old self.new result }
+        ensures shorter { OnOk result (ahead self.new + length text.now ≤ ahead self.old) }
+    {
+        self.text(text)?;
         self.gap()?;
         Ok(())
     }

@@ -27,6 +27,16 @@ pub fn begins(bytes: &[u8], at: usize, byte: u8) -> bool
     }
 }
 
+/// Whether these bytes are at a position.
+#[tactic(auto, unfolding(crate::specs::Bytes::begins_with))]
+pub fn begins_with(bytes: &[u8], at: usize, text: &[u8]) -> bool
+    requires { at ≤ length bytes.now }
+    ensures value { result ≡ spec.begins_with text.now bytes.now at }
+    ensures within { OnTrue result (at + length text.now ≤ length bytes.now) }
+{
+    bytes[at..].starts_with(text)
+}
+
 /// Whether a position is the end of the bytes.
 #[tactic(auto, unfolding(crate::specs::Bytes::is_end))]
 pub fn is_end(bytes: &[u8], at: usize) -> bool

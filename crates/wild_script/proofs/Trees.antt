@@ -11,7 +11,7 @@ use Rattle.wild_reading.specs.declared.stop.Stop.TheVariants.{Syntax, OpenCommen
 use Rattle.wild_reading.proofs.Readers.{until_ends}
 use Rattle.wild_reading.specs.Faults.{fault_of}
 use Rattle.wild_script.specs.Tree.{script, commands, tree_within, IsTree, IsParseFault}
-use Rattle.wild_script.specs.declared.tree.LinkerScript.{LinkerScript}
+use Rattle.wild_script_tree.specs.declared.tree.LinkerScript.{LinkerScript}
 
 is_length : (b : Bytes) (j : ℕ) → is_end b j ≡ true → j ≡ length b
 unfolding is_end

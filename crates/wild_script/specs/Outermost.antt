@@ -8,13 +8,13 @@ use Rattle.wild_script.specs.Words.{command_word}
 use Rattle.wild_script.specs.declared.words.CommandWord.{CommandWord}
 use Rattle.wild_script.specs.declared.words.CommandWord.TheVariants as c
 use Rattle.wild_expression_words.specs.Words.{is_counter}
-use Rattle.wild_script.specs.Assignment.{open_value}
-use Rattle.wild_script.specs.Provide.{provide_body}
-use Rattle.wild_script.specs.Section.{statement}
-use Rattle.wild_script.specs.declared.tree.Sections as kept
-use Rattle.wild_script.specs.declared.tree.SectionCommand.{SectionCommand}
-use Rattle.wild_script.specs.declared.tree.Command.{Command}
-use Rattle.wild_script.specs.declared.tree.Command.TheVariants as variant
+use Rattle.wild_statements.specs.Assignment.{open_value}
+use Rattle.wild_statements.specs.Provide.{provide_body}
+use Rattle.wild_section_statements.specs.Statement.{statement}
+use Rattle.wild_script_tree.specs.declared.tree.Sections as kept
+use Rattle.wild_script_tree.specs.declared.tree.SectionCommand.{SectionCommand}
+use Rattle.wild_script_tree.specs.declared.tree.Command.{Command}
+use Rattle.wild_script_tree.specs.declared.tree.Command.TheVariants as variant
 
 -- statements up to a brace
 unfoldable pub section_statements : Reader (List SectionCommand)

@@ -9,8 +9,8 @@ use Rattle.wild_reading.specs.Reader.{Reader, ◌>>=◌, ◌>>◌, Give, Until}
 use Rattle.wild_reading.specs.Lex.{gap}
 use Rattle.wild_reading.specs.Only.{IsOpenComment, IsNestedSort}
 use Rattle.wild_script.specs.Outermost.{command}
-use Rattle.wild_script.specs.declared.tree.LinkerScript.{LinkerScript}
-use Rattle.wild_script.specs.declared.tree.Command.{Command}
+use Rattle.wild_script_tree.specs.declared.tree.LinkerScript.{LinkerScript}
+use Rattle.wild_script_tree.specs.declared.tree.Command.{Command}
 
 -- the bytes of a script
 abbrev pub Bytes : Type 0

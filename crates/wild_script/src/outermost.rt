@@ -7,7 +7,7 @@ ghost use Rattle.wild_script.specs.Outermost as spec;
 
 use crate::assignment::open_value;
 use crate::provide::provide_body;
-use crate::tree::{Command, Location, SectionCommand, Sections};
+use wild_script_tree::{Command, Location, SectionCommand, Sections};
 use crate::words::{CommandWord, command_word};
 use sqlite_items::Items;
 use std::alloc::Global;

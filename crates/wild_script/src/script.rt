@@ -4,7 +4,7 @@ ghost use Rattle.wild_reading.specs.Only.{Answers};
 ghost use Rattle.wild_script.specs.Tree as spec;
 
 use crate::outermost::command;
-use crate::tree::{Command, LinkerScript};
+use wild_script_tree::{Command, LinkerScript};
 use sqlite_items::Items;
 use std::alloc::Global;
 use wild_reading::{Cursor, Stop};
