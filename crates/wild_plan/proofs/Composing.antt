@@ -109,11 +109,3 @@ module _ (script : Bytes) (inputs : InputTable) (options : PlanOptions) (t : Lin
     none_fits = λ plan g. plan_or_fault (case t) plan fault (of_tree plan g) f;
     only = λ other g. ⊎_elim (λ h. absurd (no_parse_fault other h)) (λ h. inl (faults_once (case t) fault other f (fault_of_tree other h))) g;
   }
-
--- the bytes have no tree
-pub the_parse_fault : (script : Bytes) (inputs : InputTable) (options : PlanOptions) (fault : Fault) → IsParseFault script fault → IsTheFault script inputs options fault
-the_parse_fault script inputs options fault h = record {
-  is = inl h;
-  none_fits = λ plan g. none_by script g.script_tree fault g.is_tree h;
-  only = λ other g. ⊎_elim (λ p. inr (p, h)) (λ later. absurd (none_by script later.script_tree fault later.is_tree h)) g;
-}

@@ -8,7 +8,7 @@ use Rattle.wild_plan.proofs.pipeline.script_lists.Goals as goal
 
 pub returns-in_err-walk-clause-refused : goal.returns-in_err-walk-clause-refused
 returns-in_err-walk-clause-refused c =
-    let p = err_from_is_err_and c.from_residual.result c.from_residual.ensures.1 in
+    let p = err_from_is_err_and c.from_residual-in_err-walk.result c.from_residual-in_err-walk.ensures.1 in
     let checked = c.in_ok-definitions.ensures.sound in
     let basis = c.in_ok-basis.ensures in
     let places = ap shown_places c.as_slice-places.ensures ∙ checked.fates.places in
