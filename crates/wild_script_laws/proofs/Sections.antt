@@ -74,7 +74,7 @@ unfolding k.bare_contents k.assigned_contents k.counter_contents k.symbol_conten
 bare_contents_rises first = search (lexing, tight_rises) depth 20
 
 contents_rises : Rises (k.contents first_grammar)
-unfolding k.contents k.contents_statement k.after_token k.bracket_contents
+unfolding k.contents k.statements k.contents_statement k.after_token k.bracket_contents
 contents_rises = search (lexing, after_contents_word_rises, bare_contents_rises) depth 20
 
 -- ---- sections

@@ -30,12 +30,10 @@ section_head dialect s = do
   symbol 58
   clauses dialect begun
 
--- statements in braces
+-- what is in the braces
 unfoldable pub section_body : Dialect → Section → Reader Section
 section_body dialect s = do
-  symbol 123
   statements ← contents dialect
-  symbol 125
   Give (record s { commands = statements })
 
 -- all that is said of a section; a comma or none

@@ -31,7 +31,7 @@ fn named_section(alloc: Global, name: &[u8]) -> Result<Section, NoMemory>
     })
 }
 
-#[tactic(auto)]
+#[tactic(auto, using(wild_reading::proofs::Readers::reading), unfolding(crate::specs::Section::section_head))]
 fn section_head(cursor: &mut Cursor<'_>, alloc: Global, section: Section) -> Result<Section, Stop>
     ensures { Answers (spec.section_head first_grammar section) cursor.old cursor.new result }
 {
@@ -40,7 +40,7 @@ fn section_head(cursor: &mut Cursor<'_>, alloc: Global, section: Section) -> Res
     clauses(cursor, alloc, begun)
 }
 
-#[tactic(auto)]
+#[tactic(auto, using(wild_reading::proofs::Readers::reading), unfolding(crate::specs::Section::section_body))]
 fn section_body(
     cursor: &mut Cursor<'_>,
     alloc: Global,
@@ -48,19 +48,13 @@ fn section_body(
 ) -> Result<Section, Stop>
     ensures { Answers (spec.section_body first_grammar section) cursor.old cursor.new result }
 {
-    cursor.symbol(b'{')?;
     let commands = contents(cursor, alloc)?;
-    cursor.symbol(b'}')?;
     section.commands = commands;
     Ok(section)
 }
 
-#[tactic(auto)]
-fn section_parts(
-    cursor: &mut Cursor<'_>,
-    alloc: Global,
-    section: Section,
-) -> Result<Section, Stop>
+#[tactic(auto, using(wild_reading::proofs::Readers::reading), unfolding(crate::specs::Section::section_parts))]
+fn section_parts(cursor: &mut Cursor<'_>, alloc: Global, section: Section) -> Result<Section, Stop>
     ensures { Answers (spec.section_parts first_grammar section) cursor.old cursor.new result }
 {
     let head = section_head(cursor, alloc, section)?;
@@ -71,7 +65,7 @@ fn section_parts(
 }
 
 /// Reads what is after the name of a section.
-#[tactic(auto)]
+#[tactic(auto, using(wild_reading::proofs::Readers::reading))]
 pub fn named(cursor: &mut Cursor<'_>, alloc: Global, name: &[u8]) -> Result<Section, Stop>
     ensures { Answers (spec.named first_grammar name.now) cursor.old cursor.new result }
 {
