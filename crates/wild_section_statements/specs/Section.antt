@@ -23,27 +23,39 @@ named_section name = record {
   attributes = None;
 }
 
--- what is before the braces
-unfoldable pub section_head : Dialect → Section → Reader Section
-section_head dialect s = do
+-- what is before the colon, and the colon
+unfoldable pub section_start : Dialect → Section → Reader Section
+section_start dialect s = do
   begun ← items dialect s
   symbol 58
-  clauses dialect begun
+  Give begun
 
--- what is in the braces
+-- the clauses
+unfoldable pub section_clauses : Dialect → Section → Reader Section
+section_clauses dialect s = do
+  placed ← clauses dialect s
+  Give placed
+
+-- the statements in braces
 unfoldable pub section_body : Dialect → Section → Reader Section
 section_body dialect s = do
   statements ← contents dialect
   Give (record s { commands = statements })
 
--- all that is said of a section; a comma or none
+-- what is after the braces; a comma or none
+unfoldable pub section_tail : Dialect → Section → Reader Section
+section_tail dialect s = do
+  ended ← tail dialect s
+  optional_symbol 44
+  Give ended
+
+-- all that is said of a section
 unfoldable pub section_parts : Dialect → Section → Reader Section
 section_parts dialect s = do
-  head ← section_head dialect s
-  body ← section_body dialect head
-  whole ← tail dialect body
-  optional_symbol 44
-  Give whole
+  begun ← section_start dialect s
+  placed ← section_clauses dialect begun
+  filled ← section_body dialect placed
+  section_tail dialect filled
 
 -- what is after a name
 unfoldable pub named : Dialect → List ℕ → Reader Section

@@ -5,7 +5,7 @@ mod attribute;
 mod before;
 mod clauses;
 mod contents;
-mod section;
+mod output;
 mod statement;
 mod tail;
 mod words;

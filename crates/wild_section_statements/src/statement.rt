@@ -6,9 +6,9 @@ ghost use Rattle.wild_reading.specs.Position.{ahead};
 ghost use Rattle.wild_expression_words.specs.Dialect.{first_grammar};
 ghost use Rattle.wild_section_statements.specs.Statement as spec;
 
-use crate::section::named;
+use crate::output::named;
 use crate::words::{StatementWord, statement_word};
-use sqlite_items::{Boxed, Items};
+use sqlite_items::Items;
 use std::alloc::Global;
 use wild_expression::assert_body;
 use wild_expression_words::is_counter;
@@ -26,7 +26,7 @@ fn section_statement(
     ensures { Answers (spec.section_statement first_grammar name.now) cursor.old cursor.new result }
 {
     let section = named(cursor, alloc, name)?;
-    Ok(SectionCommand::Section(Boxed::new(alloc, section)?))
+    Ok(SectionCommand::Section(section))
 }
 
 #[tactic(auto, using(wild_reading::proofs::Readers::reading), unfolding(crate::specs::Statement::assert_statement))]
