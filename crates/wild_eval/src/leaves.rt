@@ -4,9 +4,10 @@ ghost use Rattle.std.specs.Prelude.{◌≡◌, ◌<◌, ◌≤◌, ◌+◌, max,
 ghost use Rattle.wild_eval.specs.Plain as spec;
 ghost use Rattle.wild_value_spec.specs.Answer.{Gives};
 ghost use Rattle.wild_value_spec.specs.Marks.{max_height};
-ghost use Rattle.wild_value_spec.specs.Value.{multiple_from, multiple_value, sum_of};
+ghost use Rattle.wild_value_spec.specs.Value.{multiple_value};
 
 use crate::arithmetic::{holds, truth};
+use crate::checked::{multiple_from, sum};
 use crate::marks::{absolutely, bare, over_both, relatively, unmarked_over};
 use crate::plain::Evaluator;
 use wild_base::Fault;
@@ -14,27 +15,6 @@ use wild_expression_tree::Comparison;
 use wild_value_spec::{Point, Value, Whole};
 
 impl Evaluator<'_> {
-    #[tactic(auto, unfolding(wild_value_spec::specs::Value::sum_of))]
-    pub(crate) fn sum(&self, left: u64, right: u64) -> Result<u64, Fault>
-        ensures { Gives result (sum_of left right) }
-    {
-        match left.checked_add(right) {
-            Some(sum) => Ok(sum),
-            None => Err(Fault::Overflow { left, right }),
-        }
-    }
-
-    #[tactic(auto, unfolding(wild_value_spec::specs::Value::multiple_from))]
-    fn multiple_from(&self, value: u64, align: u64) -> Result<u64, Fault>
-        requires { 0 < align }
-        ensures { Gives result (multiple_from value align) }
-    {
-        match value.checked_next_multiple_of(align) {
-            Some(multiple) => Ok(multiple),
-            None => Err(Fault::AlignOverflow { value, align }),
-        }
-    }
-
     #[tactic(auto, unfolding(wild_value_spec::specs::Value::full_number))]
     pub(crate) fn full_number(&self, point: Point, value: Value) -> Result<u64, Fault>
         ensures { Gives result (spec.full_number self.now point value) }
@@ -44,7 +24,7 @@ impl Evaluator<'_> {
             Some(section) => {
                 if value.relative || !value.absolute {
                     let start = self.start(section)?;
-                    self.sum(value.number, start)
+                    sum(value.number, start)
                 } else {
                     Ok(value.number)
                 }
@@ -117,7 +97,7 @@ impl Evaluator<'_> {
         ensures value { Gives result (multiple_value align x) }
         ensures height { IfOk result (λ v. v.height ≡ max align.height x.height + 1) }
     {
-        let number = self.multiple_from(x.number, align.number)?;
+        let number = multiple_from(x.number, align.number)?;
         Ok(over_both(number, align, x))
     }
 }

@@ -3,6 +3,7 @@
 
 mod addresses;
 mod arithmetic;
+mod checked;
 mod constant;
 mod definition;
 mod known;
@@ -13,6 +14,7 @@ mod plain;
 mod scope;
 
 pub use addresses::Addresses;
+pub use checked::sum;
 pub use constant::evaluate_const;
 pub use definition::{Definition, SymbolEntry};
 pub use plain::Evaluator;

@@ -7,6 +7,7 @@ ghost use Rattle.wild_value_spec.specs.Answer.{Gives};
 ghost use Rattle.wild_value_spec.specs.Marks.{max_height};
 
 use crate::arithmetic::truth;
+use crate::checked::sum;
 use crate::marks::{absolutely, absolutely_over, relatively_over, unmarked};
 use crate::plain::Evaluator;
 use wild_base::{Fault, Name};
@@ -170,7 +171,7 @@ impl Evaluator<'_> {
         ensures height { IfOk result (λ w. w.height ≡ 0) }
     {
         let start = self.address(name, row)?;
-        let number = self.sum(start, offset)?;
+        let number = sum(start, offset)?;
         Ok(Whole { number, height: 0 })
     }
 

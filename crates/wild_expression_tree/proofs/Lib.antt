@@ -1,3 +1,4 @@
 pub mod Folded
 pub mod Parts
 pub mod Rebuilt
+pub mod Visited

@@ -20,7 +20,7 @@ use Rattle.wild_expression_tree.specs.declared.tree.AssertCommand.{AssertCommand
 use Rattle.wild_expression_tree.specs.declared.tree.Expression.{Expression, out-Expression}
 use Rattle.wild_expression_tree.specs.declared.tree.Expression.TheOpen.{Expression-F}
 use Rattle.wild_expression_tree.specs.declared.tree.Expression.TheFolds.{map-Expression, fold_out-Expression, fold-AssertCommand, fold_out-AssertCommand}
-use Rattle.wild_expression_tree.specs.declared.tree.Expression.TheViews.{roll-Expression, out-roll-Expression, roll-AssertCommand, roll-out-AssertCommand}
+use Rattle.wild_expression_tree.specs.declared.tree.Expression.TheViews.{roll-Expression, out-roll-Expression, roll-out-Expression, roll-AssertCommand, roll-out-AssertCommand}
 use Rattle.wild_expression_tree.specs.Shape.{Name, Shape, Number, LocationCounter, SizeofHeaders, Symbol, Named, Ternary, Align, SegmentStart, Assert, shape_of, shape, map_shape}
 use Rattle.wild_expression_tree.specs.Equality.{Outline, absent, node, kind, number, name, same_node, unplaced, outlined, outline, outline_eq, erased, same_equiv, EqualityIsSameness}
 use Rattle.wild_expression_tree.proofs.Folded.{folded, unique}
@@ -82,6 +82,13 @@ level_back l = refl
 
 abbrev rolled : Shape Expression → Expression
 rolled s = roll-Expression (level s)
+
+rolled_back : (e : Expression) → rolled (shape e) ≡ e
+rolled_back e = ap roll-Expression (level_back (out-Expression e)) ∙ roll-out-Expression e
+
+-- expressions of one shape are one
+pub same_shape : (e f : Expression) → shape e ≡ shape f → e ≡ f
+same_shape e f same = sym (rolled_back e) ∙ ap rolled same ∙ rolled_back f
 
 -- ---- erased expressions, part by part
 

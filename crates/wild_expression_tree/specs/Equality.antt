@@ -1,5 +1,5 @@
 -- When two expressions are equal.
-use Rattle.std.specs.Prelude.{◌≡◌, ◌↔◌, ℕ, Bool, true, false, ◌&&◌, ◌==◌, [], Option, Some, None, nat_eq}
+use Rattle.std.specs.Prelude.{◌≡◌, ◌↔◌, ℕ, Bool, true, false, ◌&&◌, ◌==◌, [], Option, Some, None, nat_eq, slice_get}
 use Rattle.std.specs.Cmp.{IsEquivalence, on_equiv, and_equiv, nat_eq_equiv}
 use Rattle.std.specs.Cmp.Lexicographic.{pointwise, nat_list_eq_equiv}
 use Rattle.std.proofs.Common.{refl, sym, true≢false}
@@ -17,7 +17,7 @@ use Rattle.wild_expression_tree.specs.declared.tree.AssertCommand.{AssertCommand
 use Rattle.wild_expression_tree.specs.declared.tree.Expression.{Expression}
 use Rattle.wild_expression_tree.specs.declared.tree.Expression.TheFolds.{fold-Expression}
 use Rattle.wild_expression_tree.specs.declared.tree.Expression.TheViews.{roll-Expression, roll-AssertCommand}
-use Rattle.wild_expression_tree.specs.Shape.{Name, Shape, Number, LocationCounter, SizeofHeaders, Symbol, Named, Ternary, Align, SegmentStart, Assert, map_shape, fold}
+use Rattle.wild_expression_tree.specs.Shape.{Name, Shape, Number, LocationCounter, SizeofHeaders, Symbol, Named, Ternary, Align, SegmentStart, Assert, map_shape, parts, fold}
 
 -- ---- a node without its parts
 
@@ -79,37 +79,13 @@ abbrev pub held_outline : Option Outline → Outline
 held_outline None = absent
 held_outline (Some x) = x
 
--- the first, the second and the third part of a node
-abbrev pub first_of : Shape Outline → Outline
-first_of (Shape.Arithmetic o x y) = x
-first_of (Shape.Division o x y) = x
-first_of (Shape.Comparison o x y) = x
-first_of (Shape.Connective o x y) = x
-first_of (Shape.Unary o x) = x
-first_of (Ternary x y z) = x
-first_of (Align x y) = x
-first_of (SegmentStart s x) = x
-first_of (Assert x message at) = x
-first_of s = absent
-
--- `absent` where it has no second one
-abbrev pub second_of : Shape Outline → Outline
-second_of (Shape.Arithmetic o x y) = y
-second_of (Shape.Division o x y) = y
-second_of (Shape.Comparison o x y) = y
-second_of (Shape.Connective o x y) = y
-second_of (Ternary x y z) = y
-second_of (Align x y) = held_outline y
-second_of s = absent
-
--- the same of a third one
-abbrev pub third_of : Shape Outline → Outline
-third_of (Ternary x y z) = z
-third_of s = absent
+-- the part at this place, or `absent` where it has none
+abbrev pub part_at : Shape Outline → ℕ → Outline
+part_at s i = held_outline (slice_get (parts s) i)
 
 -- a node over the outlines of its parts
 abbrev pub outlined : Shape Outline → Outline
-outlined s = node (map_shape (λ x. tt) (unplaced s)) (first_of s) (second_of s) (third_of s)
+outlined s = node (map_shape (λ x. tt) (unplaced s)) (part_at s 0) (part_at s 1) (part_at s 2)
 
 -- the whole expression
 abbrev pub outline : Expression → Outline

@@ -1,5 +1,5 @@
 -- The shape of a node: its kind, with its operator or its name, over its parts.
-use Rattle.std.specs.Prelude.{ℕ, max, Bool, true, false, List, Option}
+use Rattle.std.specs.Prelude.{ℕ, max, Bool, true, false, List, [], ◌∷◌, Option, Some, None}
 use Rattle.std.specs.Option.{option_map, unwrap_or}
 use denote.Ref.{Bor}
 use Rattle.wild_names.specs.declared.segment_name.SegmentName.{SegmentName}
@@ -108,6 +108,20 @@ map_shape f (Ternary x y z) = Ternary (f x) (f y) (f z)
 map_shape f (Align x y) = Align (f x) (option_map f y)
 map_shape f (SegmentStart s x) = SegmentStart s (f x)
 map_shape f (Assert x message at) = Assert (f x) message at
+
+-- its parts, in written order
+abbrev pub parts : {X : Type 0} → Shape X → List X
+parts (Arithmetic o x y) = x ∷ y ∷ []
+parts (Division o x y) = x ∷ y ∷ []
+parts (Comparison o x y) = x ∷ y ∷ []
+parts (Connective o x y) = x ∷ y ∷ []
+parts (Unary o x) = x ∷ []
+parts (Ternary x y z) = x ∷ y ∷ z ∷ []
+parts (Align x None) = x ∷ []
+parts (Align x (Some y)) = x ∷ y ∷ []
+parts (SegmentStart s x) = x ∷ []
+parts (Assert x message at) = x ∷ []
+parts s = []
 
 -- an optional part that code sees
 abbrev pub seen_held : Option (Bor Expression) → Option Expression

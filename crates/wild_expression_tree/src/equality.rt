@@ -1,11 +1,11 @@
 //! Equality of expressions.
 
-ghost use Rattle.std.specs.Prelude.{◌≡◌, ◌≤◌};
+ghost use Rattle.std.specs.Prelude.{◌≡◌};
 ghost use Rattle.std.specs.Cmp.{partial_equiv_from_equiv};
 ghost use Rattle.wild_expression_tree.specs.Equality as spec;
-ghost use Rattle.wild_expression_tree.specs.Shape.{map_shape, part_size, seen, seen_held, size_held};
+ghost use Rattle.wild_expression_tree.specs.Shape.{seen, seen_held};
 
-use crate::shape::Shape;
+use crate::shape::{Shape, first, second, third};
 use crate::tree::{AssertCommand, Expression};
 
 fn kind(shape: Shape<'_>) -> u8
@@ -59,49 +59,6 @@ fn name<'a>(shape: Shape<'a>) -> &'a [u8]
     }
 }
 
-fn first<'a>(shape: Shape<'a>) -> Option<&'a Expression>
-    ensures part { spec.operand (seen_held result) ≡ spec.first_of (map_shape spec.outline (seen shape.entry)) }
-    ensures smaller { size_held (seen_held result) ≤ part_size (seen shape.entry) }
-{
-    match shape {
-        Shape::Arithmetic(_, x, _)
-        | Shape::Division(_, x, _)
-        | Shape::Comparison(_, x, _)
-        | Shape::Connective(_, x, _)
-        | Shape::Unary(_, x)
-        | Shape::Ternary(x, _, _)
-        | Shape::Align(x, _)
-        | Shape::SegmentStart(_, x) => Some(x),
-        Shape::Assert(command) => Some(command.expression.get()),
-        _ => None,
-    }
-}
-
-fn second<'a>(shape: Shape<'a>) -> Option<&'a Expression>
-    ensures part { spec.operand (seen_held result) ≡ spec.second_of (map_shape spec.outline (seen shape.entry)) }
-    ensures smaller { size_held (seen_held result) ≤ part_size (seen shape.entry) }
-{
-    match shape {
-        Shape::Arithmetic(_, _, x)
-        | Shape::Division(_, _, x)
-        | Shape::Comparison(_, _, x)
-        | Shape::Connective(_, _, x)
-        | Shape::Ternary(_, x, _) => Some(x),
-        Shape::Align(_, x) => x,
-        _ => None,
-    }
-}
-
-fn third<'a>(shape: Shape<'a>) -> Option<&'a Expression>
-    ensures part { spec.operand (seen_held result) ≡ spec.third_of (map_shape spec.outline (seen shape.entry)) }
-    ensures smaller { size_held (seen_held result) ≤ part_size (seen shape.entry) }
-{
-    match shape {
-        Shape::Ternary(_, _, x) => Some(x),
-        _ => None,
-    }
-}
-
 fn same_node(left: Shape<'_>, right: Shape<'_>) -> bool
     ensures { result ≡ spec.same_node (seen left.entry) (seen right.entry) }
 {
@@ -109,7 +66,7 @@ fn same_node(left: Shape<'_>, right: Shape<'_>) -> bool
 }
 
 #[cycle(equality)]
-#[tactic(auto, using(crate::proofs::Parts::parts), unfolding(crate::specs::Equality::outline_eq))]
+#[tactic(auto, using(crate::proofs::Parts::part_by_part), unfolding(crate::specs::Equality::outline_eq))]
 fn same_operand(left: Option<&Expression>, right: Option<&Expression>) -> bool
     ensures { result ≡ spec.outline_eq (spec.operand (seen_held left.entry)) (spec.operand (seen_held right.entry)) }
 {
@@ -123,7 +80,7 @@ fn same_operand(left: Option<&Expression>, right: Option<&Expression>) -> bool
 }
 
 #[cycle(equality)]
-#[tactic(auto, using(crate::proofs::Parts::parts))]
+#[tactic(auto, using(crate::proofs::Parts::part_by_part))]
 fn same(left: &Expression, right: &Expression) -> bool
     ensures { result ≡ spec.same left.now right.now }
 {

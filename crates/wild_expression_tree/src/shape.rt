@@ -1,8 +1,8 @@
 //! The shape of a node.
 
-ghost use Rattle.std.specs.Prelude.{◌≡◌, ◌<◌, false, IfSome, MatchOption};
+ghost use Rattle.std.specs.Prelude.{◌≡◌, ◌<◌, ◌≤◌, false, slice_get, IfSome, MatchOption};
 ghost use Rattle.wild_expression_tree.specs.Shape as spec;
-ghost use Rattle.wild_expression_tree.specs.Shape.{part_size, seen, shape};
+ghost use Rattle.wild_expression_tree.specs.Shape.{part_size, parts, seen, seen_held, shape, size_held};
 ghost use Rattle.wild_expression_tree.specs.declared.tree.Expression.{size-Expression};
 
 use crate::operator::{Arithmetic, Comparison, Connective, Division, Question, Unary};
@@ -33,7 +33,7 @@ pub enum Shape<'a> {
 }
 
 fn held(part: &Option<Boxed<Expression>>) -> Option<&Expression>
-    ensures { spec.seen_held result ≡ part.now }
+    ensures { seen_held result ≡ part.now }
 {
     match part {
         Some(expression) => Some(expression.get()),
@@ -110,5 +110,51 @@ impl Expression {
             // SIZEOF_HEADERS, and nothing else.
             _ => Shape::SizeofHeaders,
         }
+    }
+}
+
+// The first part, if there is one.
+pub(crate) fn first<'a>(shape: Shape<'a>) -> Option<&'a Expression>
+    ensures part { seen_held result ≡ slice_get (parts (seen shape.entry)) 0 }
+    ensures smaller { size_held (seen_held result) ≤ part_size (seen shape.entry) }
+{
+    match shape {
+        Shape::Arithmetic(_, x, _)
+        | Shape::Division(_, x, _)
+        | Shape::Comparison(_, x, _)
+        | Shape::Connective(_, x, _)
+        | Shape::Unary(_, x)
+        | Shape::Ternary(x, _, _)
+        | Shape::Align(x, _)
+        | Shape::SegmentStart(_, x) => Some(x),
+        Shape::Assert(command) => Some(command.expression.get()),
+        _ => None,
+    }
+}
+
+// The second part.
+pub(crate) fn second<'a>(shape: Shape<'a>) -> Option<&'a Expression>
+    ensures part { seen_held result ≡ slice_get (parts (seen shape.entry)) 1 }
+    ensures smaller { size_held (seen_held result) ≤ part_size (seen shape.entry) }
+{
+    match shape {
+        Shape::Arithmetic(_, _, x)
+        | Shape::Division(_, _, x)
+        | Shape::Comparison(_, _, x)
+        | Shape::Connective(_, _, x)
+        | Shape::Ternary(_, x, _) => Some(x),
+        Shape::Align(_, x) => x,
+        _ => None,
+    }
+}
+
+// The third part.
+pub(crate) fn third<'a>(shape: Shape<'a>) -> Option<&'a Expression>
+    ensures part { seen_held result ≡ slice_get (parts (seen shape.entry)) 2 }
+    ensures smaller { size_held (seen_held result) ≤ part_size (seen shape.entry) }
+{
+    match shape {
+        Shape::Ternary(_, _, x) => Some(x),
+        _ => None,
     }
 }

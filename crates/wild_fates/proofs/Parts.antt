@@ -21,7 +21,7 @@ names_length (x ∷ xs) = ap suc (names_length xs)
 
 orphans_same : (s : ℕ) (xs : List Name) → orphans_from s (length xs) ≡ orphan_places s xs
 orphans_same s [] = refl
-orphans_same s (x ∷ xs) = ap (λ (ps : List Place). Open s ∷ Rows (record { «section» = s; number = 0 }) ∷ Close s None ∷ ps) (orphans_same (s + 1) xs)
+orphans_same s (x ∷ xs) = ap (λ (ps : List Place). Open s None ∷ Rows (record { «section» = s; number = 0 }) ∷ Close s None ∷ ps) (orphans_same (s + 1) xs)
 
 both_lengths : (xs ys : List Name) → length (xs ++ ys) - length xs ≡ length ys
 both_lengths xs ys = let e = length-append xs ys in omega (arith, e)

@@ -4,7 +4,7 @@ use Rattle.wild_plan_spec.specs.Places.{Place, Open, Rows, Close}
 
 -- an orphan section, with one chunk
 abbrev pub orphan_place : ℕ → List Place
-orphan_place s = Open s ∷ Rows (record { «section» = s; number = 0 }) ∷ Close s None ∷ []
+orphan_place s = Open s None ∷ Rows (record { «section» = s; number = 0 }) ∷ Close s None ∷ []
 
 -- so many, from this one on
 abbrev pub orphans_from : ℕ → ℕ → List Place

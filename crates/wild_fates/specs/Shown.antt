@@ -1,5 +1,6 @@
 -- Statements and places as they are kept, with their parts borrowed, and what they are.
 use Rattle.std.specs.Prelude.{List, map}
+use Rattle.std.specs.Option.{option_copied}
 use Rattle.wild_plan_spec.specs.Statements as statements
 use Rattle.wild_plan_spec.specs.Places as spec
 use Rattle.wild_fates.specs.declared.statements.Statement.{Statement}
@@ -7,7 +8,7 @@ use Rattle.wild_fates.specs.declared.statements.Statement.TheVariants.{Inner, Ou
 use Rattle.wild_fates.specs.declared.places.Task.{Task}
 use Rattle.wild_fates.specs.declared.places.Task.TheVariants.{Assign, Provide, Locate, Check}
 use Rattle.wild_fates.specs.declared.places.Place.{Place}
-use Rattle.wild_fates.specs.declared.places.Place.TheVariants.{SetLocation, Wait, Open, Collect, Rows, Close, Idle}
+use Rattle.wild_fates.specs.declared.places.Place.TheVariants.{SetLocation, Wait, Open, Collect, Rows, Close, Discard, Idle, Unbuilt}
 
 -- a statement, without that it is borrowed
 abbrev pub shown_statement : Statement → statements.Statement
@@ -29,11 +30,13 @@ shown_task (Check c) = spec.Check c.now
 abbrev pub shown_place : Place → spec.Place
 shown_place (SetLocation e) = spec.SetLocation e.now
 shown_place (Wait w task) = spec.Wait w (shown_task task)
-shown_place (Open s) = spec.Open s
+shown_place (Open s x) = spec.Open s (option_copied x)
 shown_place (Collect q m) = spec.Collect q m.now
 shown_place (Rows q) = spec.Rows q
 shown_place (Close s rest) = spec.Close s rest
+shown_place (Discard x) = spec.Discard x.now
 shown_place Idle = spec.Idle
+shown_place Unbuilt = spec.Unbuilt
 
 -- the same of each
 abbrev pub shown_places : List Place → List spec.Place

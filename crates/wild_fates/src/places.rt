@@ -1,7 +1,7 @@
 //! The places of a script, as one numbered list.
 
 ghost use Rattle.std.specs.Prelude.{◌≡◌, ◌<◌, ◌+◌, ◌-◌, ◌^◌, [], ◌∷◌, ◌++◌, if◌then◌else◌, OnOk, IfOk};
-ghost use Rattle.wild_plan_spec.specs.Places.{contents_places, rest_chunk, section_places, discarding_places, discard_places, inner_places, outer_places, statement_places, next_section, all_places};
+ghost use Rattle.wild_plan_spec.specs.Places.{content_place, next_chunk, contents_places, rest_chunk, section_places, discarding_place, discarding_places, discard_places, inner_places, outer_places, statement_places, next_section, all_places};
 ghost use Rattle.wild_plan_spec.specs.Statements.{is_discard};
 ghost use Rattle.wild_fates.specs.Orphaned.{orphan_place, orphans_from};
 ghost use Rattle.wild_fates.specs.Shown.{shown_places, shown_place, shown_statement, shown_statements};
@@ -36,16 +36,20 @@ pub enum Place<'a> {
     SetLocation(&'a Expression),
     /// A task, which waits until all places are laid out.
     Wait(Where, Task<'a>),
-    /// The section of this number begins.
-    Open(usize),
+    /// The section of this number begins: one of the script, or an orphan.
+    Open(usize, Option<&'a Section>),
     /// A matcher, with the rows of the chunk for which it collects; those of `/DISCARD/` collect for none.
     Collect(Option<Chunk>, &'a Matcher),
     /// The rows of the one chunk of an orphan.
     Rows(Chunk),
     /// The rest of the section of this number is placed, where it has a chunk of its own, and the section ends.
     Close(usize, Option<Chunk>),
-    /// `/DISCARD/` begins or ends, which does nothing.
+    /// `/DISCARD/` begins, which does nothing.
+    Discard(&'a Section),
+    /// `/DISCARD/` ends, or a command stands here that does nothing.
     Idle,
+    /// A statement or a command whose meaning is not built yet.
+    Unbuilt,
 }
 
 fn push<'a>(places: &mut Items<Place<'a>>, place: Place<'a>) -> Result<(), NoMemory>
@@ -53,6 +57,29 @@ fn push<'a>(places: &mut Items<Place<'a>>, place: Place<'a>) -> Result<(), NoMem
 {
     places.push(place)?;
     Ok(())
+}
+
+// A statement of a section, whose chunk, if it is a matcher, has this number.
+fn content_place(section: usize, number: usize, command: &ContentsCommand) -> Place<'_>
+    ensures { shown_place result ≡ content_place section number command.now }
+{
+    match command {
+        ContentsCommand::Matcher(matcher) => {
+            Place::Collect(Some(Chunk { section, number }), matcher)
+        }
+        _ => Place::Unbuilt,
+    }
+}
+
+// The number of the next chunk after a statement.
+fn next_chunk(number: usize, command: &ContentsCommand) -> usize
+    requires { number + 1 < 2 ^ 64 }
+    ensures { result ≡ next_chunk number command.now }
+{
+    match command {
+        ContentsCommand::Matcher(_) => number + 1,
+        _ => number,
+    }
 }
 
 fn push_contents<'a>(
@@ -64,13 +91,8 @@ fn push_contents<'a>(
 {
     let mut number = 0;
     for command in commands {
-        match command {
-            ContentsCommand::Matcher(matcher) => {
-                let chunk = Chunk { section, number };
-                push(places, Place::Collect(Some(chunk), matcher))?;
-                number += 1;
-            }
-        }
+        push(places, content_place(section, number, command))?;
+        number = next_chunk(number, command);
     }
     Ok(())
 }
@@ -79,10 +101,12 @@ fn push_contents<'a>(
 fn rest_chunk(section: usize, commands: &[ContentsCommand]) -> Option<Chunk>
     ensures { result ≡ rest_chunk section commands.now }
 {
-    match commands {
-        [] => Some(Chunk { section, number: 0 }),
-        [ContentsCommand::Matcher(_), ..] => None,
+    for command in commands {
+        if let ContentsCommand::Matcher(_) = command {
+            return None;
+        }
     }
+    Some(Chunk { section, number: 0 })
 }
 
 fn push_section<'a>(
@@ -92,11 +116,21 @@ fn push_section<'a>(
 ) -> Result<(), NoMemory>
     ensures { OnOk result (shown_places places.new ≡ shown_places places.old ++ section_places number section.now) }
 {
-    push(places, Place::Open(number))?;
+    push(places, Place::Open(number, Some(section)))?;
     let commands = section.commands.as_slice();
     push_contents(places, number, commands)?;
     push(places, Place::Close(number, rest_chunk(number, commands)))?;
     Ok(())
+}
+
+// A statement of `/DISCARD/`.
+fn discarding_place(command: &ContentsCommand) -> Place<'_>
+    ensures { shown_place result ≡ discarding_place command.now }
+{
+    match command {
+        ContentsCommand::Matcher(matcher) => Place::Collect(None, matcher),
+        _ => Place::Unbuilt,
+    }
 }
 
 fn push_discarding<'a>(
@@ -106,9 +140,7 @@ fn push_discarding<'a>(
     ensures { OnOk result (shown_places places.new ≡ shown_places places.old ++ discarding_places commands.now) }
 {
     for command in commands {
-        match command {
-            ContentsCommand::Matcher(matcher) => push(places, Place::Collect(None, matcher))?,
-        }
+        push(places, discarding_place(command))?;
     }
     Ok(())
 }
@@ -116,7 +148,7 @@ fn push_discarding<'a>(
 fn push_discard<'a>(places: &mut Items<Place<'a>>, section: &'a Section) -> Result<(), NoMemory>
     ensures { OnOk result (shown_places places.new ≡ shown_places places.old ++ discard_places section.now) }
 {
-    push(places, Place::Idle)?;
+    push(places, Place::Discard(section))?;
     push_discarding(places, section.commands.as_slice())?;
     push(places, Place::Idle)?;
     Ok(())
@@ -168,6 +200,15 @@ fn push_outer<'a>(places: &mut Items<Place<'a>>, command: &'a Command) -> Result
         Command::SetLocation(location) => Task::Locate(&location.address),
         Command::Provide(definition) => Task::Provide(definition),
         Command::Assert(command) => Task::Check(command),
+        Command::Arg(_)
+        | Command::Group(_)
+        | Command::AsNeeded(_)
+        | Command::Ignored
+        | Command::Entry(_)
+        | Command::Version(_) => return push(places, Place::Idle),
+        Command::Memory(_) | Command::Phdrs(_) | Command::OutputFormat(_) => {
+            return push(places, Place::Unbuilt);
+        }
         Command::Sections(_) => return Ok(()),
     };
     push(places, Place::Wait(Where::Outermost, task))
@@ -219,7 +260,7 @@ pub fn find_places<'a>(
 fn push_orphan(places: &mut Items<Place<'_>>, section: usize) -> Result<(), NoMemory>
     ensures { OnOk result (shown_places places.new ≡ shown_places places.old ++ orphan_place section) }
 {
-    push(places, Place::Open(section))?;
+    push(places, Place::Open(section, None))?;
     push(places, Place::Rows(Chunk { section, number: 0 }))?;
     push(places, Place::Close(section, None))?;
     Ok(())

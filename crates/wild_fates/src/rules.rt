@@ -5,16 +5,16 @@ ghost use Rattle.std.specs.Option.{option_copied, option_to_list};
 ghost use Rattle.wild_names.specs.declared.fault.Fault.TheVariants as fault;
 ghost use Rattle.wild_rules.specs.declared.fault.RuleFault.TheVariants as why;
 ghost use Rattle.wild_rules.specs.Making.{script_rule};
-ghost use Rattle.wild_plan_spec.specs.Checks.{is_task_built, is_place_built, pattern_check, pattern_checks, matcher_checks, checks_at, place_checks, failing};
+ghost use Rattle.wild_plan_spec.specs.Checks.{pattern_check, pattern_checks, matcher_checks, checks_at, place_checks, failing};
 ghost use Rattle.wild_plan_spec.specs.Fates.{name_decision};
 ghost use Rattle.wild_plan_spec.specs.Rules.{rules_in};
 ghost use Rattle.wild_fates.specs.Numbered.{outcome_decision, outcome_for, rule_list, numbered_patterns, numbered_place, number_for, chunks_at, chunks_in, numbered_rules};
 ghost use Rattle.wild_fates.specs.Refused.{bad_name};
 ghost use Rattle.wild_fates.specs.Passes.{Passes};
-ghost use Rattle.wild_fates.specs.Shown.{shown_task, shown_place, shown_places};
+ghost use Rattle.wild_fates.specs.Shown.{shown_place, shown_places};
 
-use crate::built::is_built;
-use crate::places::{Place, Task};
+use crate::built::is_place_built;
+use crate::places::Place;
 use sqlite_items::Items;
 use std::alloc::Global;
 use std::marker::Model;
@@ -177,27 +177,6 @@ fn push_patterns(
 
 // ---- places
 
-fn is_task_built(task: Task<'_>) -> bool
-    ensures { result ≡ is_task_built (shown_task task.entry) }
-{
-    match task {
-        Task::Assign(_, value) => is_built(value, true),
-        Task::Provide(definition) => is_built(&definition.value, true),
-        Task::Locate(address) => is_built(address, true),
-        Task::Check(command) => is_built(command.expression.get(), true),
-    }
-}
-
-fn is_place_built(place: &Place<'_>) -> bool
-    ensures { result ≡ is_place_built (shown_place place.now) }
-{
-    match *place {
-        Place::SetLocation(expression) => is_built(expression, false),
-        Place::Wait(_, task) => is_task_built(task),
-        _ => true,
-    }
-}
-
 // The number of a chunk, which it gets after the others, or none for none. There is no memory for more chunks than there
 // are numbers.
 fn number_chunk(
@@ -281,8 +260,8 @@ fn number_rules(alloc: Global, places: &[Place<'_>]) -> Result<NumberedRules, Fa
     Ok(numbered)
 }
 
-/// The rules of these places, in their order. The fault is the first of a place: a pattern that has no reading, or an
-/// expression that is not built.
+/// The rules of these places, in their order. The fault is the first of a place: a pattern that has no reading, or what
+/// stands there is not built.
 #[tactic(auto, using(crate::proofs::Numbered::rules_are))]
 pub fn find_rules(alloc: Global, places: &[Place<'_>]) -> Result<Rules, Fault>
     ensures rules { IfOk result (λ rules. rules ≡ rules_in (shown_places places.now)) }

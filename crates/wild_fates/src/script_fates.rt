@@ -18,7 +18,7 @@ use sqlite_items::Items;
 use std::alloc::Global;
 use wild_base::{Fault, NoMemory};
 use wild_plan_spec::{InputRow, InputTable, Kept};
-use wild_script_tree::{LinkerScript, Section};
+use wild_script_tree::{Command, Section};
 
 /// What a script is taken apart into.
 #[derive(Drop)]
@@ -38,10 +38,10 @@ pub struct ScriptFates<'a> {
     pub fates: Items<Option<Kept>>,
 }
 
-fn find_parts(alloc: Global, script: &LinkerScript) -> Result<Parts<'_>, NoMemory>
-    ensures { IfOk result (IsParts script.now) }
+fn find_parts(alloc: Global, commands: &[Command]) -> Result<Parts<'_>, NoMemory>
+    ensures { IfOk result (IsParts commands.now) }
 {
-    let statements = find_statements(alloc, script)?;
+    let statements = find_statements(alloc, commands)?;
     let places = find_places(alloc, statements.as_slice())?;
     let sections = find_sections(alloc, statements.as_slice())?;
     Ok(Parts { sections, places })
@@ -103,18 +103,18 @@ fn decide_by<'a>(
 ///
 /// # Errors
 ///
-/// First that of the first place that fails: a pattern without a reading, or an expression that is not built. Then that
+/// First that of the first place that fails: a pattern without a reading, or what is not built. Then that
 /// of the first section with the name of an earlier one. NoMemory may come at any point.
 #[tactic(auto, using(std::proofs::lemmas::Grind::common_steps, crate::proofs::Failing::none_after))]
 pub fn decide_fates<'a>(
     alloc: Global,
-    script: &'a LinkerScript,
+    commands: &'a [Command],
     inputs: &'a InputTable,
 ) -> Result<ScriptFates<'a>, Fault>
-    ensures fates { IfOk result (AreFates script.now inputs.now) }
-    ensures passes { Passes (failing (script_checks script.now)) result }
+    ensures fates { IfOk result (AreFates commands.now inputs.now) }
+    ensures passes { Passes (failing (script_checks commands.now)) result }
 {
-    let Parts { sections, places } = find_parts(alloc, script)?;
+    let Parts { sections, places } = find_parts(alloc, commands)?;
     let rules = find_rules(alloc, places.as_slice())?;
     let own = number_sections(alloc, sections.as_slice())?;
     let fates = decide_by(alloc, places, &rules, own, inputs.rows.as_slice())?;

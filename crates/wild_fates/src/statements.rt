@@ -8,7 +8,7 @@ ghost use Rattle.wild_fates.specs.Shown.{shown_statement, shown_statements};
 use sqlite_items::Items;
 use std::alloc::Global;
 use wild_base::NoMemory;
-use wild_script_tree::{Command, LinkerScript, Section, SectionCommand};
+use wild_script_tree::{Command, Section, SectionCommand};
 
 /// A statement of a script.
 #[derive(Clone, Copy, Debug)]
@@ -53,12 +53,12 @@ fn push_command<'a>(
 /// The statements of a script in text order, whichever SECTIONS they stand in. Fails where memory runs out.
 pub fn find_statements(
     alloc: Global,
-    script: &LinkerScript,
+    commands: &[Command],
 ) -> Result<Items<Statement<'_>>, NoMemory>
-    ensures { IfOk result (λ statements. shown_statements statements ≡ statements_of script.now) }
+    ensures { IfOk result (λ statements. shown_statements statements ≡ statements_of commands.now) }
 {
     let mut statements = Items::new(alloc);
-    for command in script.commands.as_slice() {
+    for command in commands {
         push_command(&mut statements, command)?;
     }
     Ok(statements)

@@ -5,10 +5,10 @@ ghost use Rattle.wild_reading.specs.Only.{Answers};
 ghost use Rattle.wild_patterns.specs.Matcher as spec;
 
 use crate::pattern::pattern_list;
-use wild_script_tree::Matcher;
 use std::alloc::Global;
 use wild_names::{Name, NoMemory};
 use wild_reading::{Cursor, Stop};
+use wild_script_tree::Matcher;
 
 #[tactic(auto, unfolding(crate::specs::Matcher::is_every_file))]
 fn is_every_file(content: &[u8]) -> bool

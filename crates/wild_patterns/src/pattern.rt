@@ -7,11 +7,11 @@ ghost use Rattle.wild_reading.specs.Lex as lexis;
 ghost use Rattle.wild_reading.specs.Reader.{Passes};
 ghost use Rattle.wild_patterns.specs.Pattern as spec;
 
-use wild_script_tree::SectionPattern;
 use sqlite_items::Items;
 use std::alloc::Global;
 use wild_names::Name;
 use wild_reading::{Class, Cursor, Grammar, Stop, begins_with, read_until};
+use wild_script_tree::SectionPattern;
 
 // The position after the sort word at a position.
 #[tactic(auto, unfolding(wild_reading::specs::Lex::after_sort_word))]
@@ -151,7 +151,12 @@ fn pattern(cursor: &mut Cursor<'_>, alloc: Global) -> Result<SectionPattern, Sto
     }
 }
 
-impl Grammar for SectionPattern {
+// How a pattern is read.
+struct PatternReader;
+
+impl Grammar for PatternReader {
+    type Item = SectionPattern;
+
     ghost reads = { spec.pattern };
 
     fn read(cursor: &mut Cursor<'_>, alloc: Global) -> Result<SectionPattern, Stop> {
@@ -163,7 +168,7 @@ impl Grammar for SectionPattern {
 fn patterns(cursor: &mut Cursor<'_>, alloc: Global) -> Result<Items<SectionPattern>, Stop>
     ensures { Answers spec.patterns cursor.old cursor.new result }
 {
-    read_until(cursor, alloc, b')')
+    read_until::<PatternReader>(cursor, alloc, b')')
 }
 
 /// Reads patterns in brackets.

@@ -4,36 +4,34 @@ use Rattle.std.specs.Prelude.{slice_get}
 use Rattle.std.specs.Option.{option_map}
 use Rattle.std.proofs.lemmas.Option.{slice_get-get_or}
 use Rattle.wild_expression_tree.specs.declared.tree.Expression.{Expression}
-use Rattle.wild_script.specs.Tree.{Bytes}
 use Rattle.wild_value_spec.specs.Known.{Known, Start, Load, End, Address, number_at}
 use Rattle.wild_plan_spec.specs.declared.chunk.Kept.{Kept}
-use Rattle.wild_plan_spec.specs.declared.options.PlanOptions.{PlanOptions}
 use Rattle.wild_plan_spec.specs.declared.placed.PlacedInput.{PlacedInput}
 use Rattle.wild_plan_spec.specs.declared.placed.PlacedInput.TheVariants.{Placed}
 use Rattle.wild_plan_spec.specs.declared.placed.PlacedSection.{PlacedSection}
 use Rattle.wild_plan_spec.specs.declared.placed.PlacedSymbol.{PlacedSymbol}
 use Rattle.wild_plan_spec.specs.declared.row.InputRow.{InputRow}
-use Rattle.wild_plan_spec.specs.declared.row.InputTable.{InputTable}
 use Rattle.wild_plan_spec.specs.declared.row.SymbolRow.{SymbolRow}
 use Rattle.wild_plan_spec.specs.Case.{Case}
 use Rattle.wild_plan_spec.specs.Definitions.{symbol_chunk}
 use Rattle.wild_plan_spec.specs.Facts.{facts_of}
-use Rattle.wild_plan_spec.specs.Fit.{IsLaid, IsPlan, case_of}
+use Rattle.wild_plan_spec.specs.Fit.{Fits, IsLaid}
 use Rattle.wild_plan_spec.specs.Layout.{Layout, placed_section, placed_sections, placed_input, placed_inputs}
 use Rattle.wild_plan_spec.specs.Names.{Name}
 use Rattle.wild_plan_spec.specs.Orphans.{places_of}
 use Rattle.wild_plan_spec.specs.Places.{SetLocation}
+use Rattle.wild_plan_spec.specs.Settled.{LocationSettles}
 use Rattle.wild_plan_spec.specs.Steps.{State}
 use Rattle.wild_plan_spec.specs.Symbols.{table_symbol, table_symbols}
 use Rattle.wild_walk_laws.proofs.Entries.{known_number}
-use Rattle.wild_walk_laws.proofs.Growing.{locations_hold}
 use Rattle.wild_walk_laws.proofs.Having.{IsAmong, has_before, has_after, has_there}
 use Rattle.wild_walk_laws.proofs.Standing.{rows_stand_in_place}
 use Rattle.wild_plan_laws.specs.Holding as holding
-use Rattle.wild_plan_laws.specs.Listing.{Covers, Lists, LocationHolds, RowStands, SectionStands, SymbolStands}
+use Rattle.wild_plan_laws.specs.Listing.{Covers, Lists, RowStands, SectionStands, SymbolStands}
 use Rattle.wild_plan_laws.proofs.Apart.{fates, names, facts_named, facts_are, sections_stand, rows_lie_in_sections, starts_below, sections_do_not_overlap, rows_do_not_overlap}
 use Rattle.wild_walk_laws.proofs.Kept.{kept_rows_have_addresses}
 use Rattle.wild_walk_laws.proofs.Numbered.{each_at, made_of}
+use Rattle.wild_walk_laws.proofs.Settled.{settles}
 
 -- ---- symbols of the table
 
@@ -172,42 +170,34 @@ module _ (c : Case) (state : State) (f : IsLaid c state) where
 
 -- ---- plans
 
-module _ (script : Bytes) (inputs : InputTable) (options : PlanOptions) (plan : Layout) (f : IsPlan script inputs options plan) where
-  abbrev the_case : Case
-  the_case = case_of script inputs options f.script_tree
+module _ (c : Case) (plan : Layout) (f : Fits c plan) where
+  section_there : (s : ℕ) (place : PlacedSection) → slice_get plan.sections s ≡ Some place → slice_get (sections c f.state f.laid) s ≡ Some place
+  section_there s place there = ap (λ (l : Layout). slice_get l.sections s) (sym f.listed) ∙ there
 
-  abbrev laid : IsLaid the_case f.fits.state
-  laid = f.fits.laid
-
-  section_there : (s : ℕ) (place : PlacedSection) → slice_get plan.sections s ≡ Some place → slice_get (sections the_case f.fits.state laid) s ≡ Some place
-  section_there s place there = ap (λ (l : Layout). slice_get l.sections s) (sym f.fits.listed) ∙ there
-
-  row_there : (r s address : ℕ) (row : InputRow) → Lists inputs plan r s address row → IsAt the_case f.fits.state laid r s address
-  row_there r s address row l = is_at the_case f.fits.state laid r s l.chunk address (ap (λ (l : Layout). slice_get l.placements r) (sym f.fits.listed) ∙ l.listed)
+  row_there : (r s address : ℕ) (row : InputRow) → Lists c.inputs plan r s address row → IsAt c f.state f.laid r s address
+  row_there r s address row l = is_at c f.state f.laid r s l.chunk address (ap (λ (l : Layout). slice_get l.placements r) (sym f.listed) ∙ l.listed)
 
   pub listed_sections_stand : (s : ℕ) (place : PlacedSection) → slice_get plan.sections s ≡ Some place → SectionStands place
-  listed_sections_stand s place there = section_stands the_case f.fits.state laid s place (section_there s place there)
+  listed_sections_stand s place there = section_stands c f.state f.laid s place (section_there s place there)
 
-  pub listed_rows_stand : (r s address : ℕ) (row : InputRow) → Lists inputs plan r s address row → RowStands plan s address row
-  listed_rows_stand r s address row l = row_stands the_case f.fits.state laid r s address row l.there (row_there r s address row l) plan (ap (λ (l : Layout). l.sections) f.fits.listed)
+  pub listed_rows_stand : (r s address : ℕ) (row : InputRow) → Lists c.inputs plan r s address row → RowStands plan s address row
+  listed_rows_stand r s address row l = row_stands c f.state f.laid r s address row l.there (row_there r s address row l) plan (ap (λ (l : Layout). l.sections) f.listed)
 
   pub listed_sections_do_not_overlap : (s u : ℕ) (one other : PlacedSection) → slice_get plan.sections s ≡ Some one → slice_get plan.sections u ≡ Some other → (x : ℕ) → Covers one.start one.size x → Covers other.start other.size x → s ≡ u
   listed_sections_do_not_overlap s u one other there here x h g =
-      sections_do_not_overlap the_case f.fits.state laid s u x
-      (covered_is the_case f.fits.state laid s one x (section_there s one there) h) (covered_is the_case f.fits.state laid u other x (section_there u other here) g)
+      sections_do_not_overlap c f.state f.laid s u x
+      (covered_is c f.state f.laid s one x (section_there s one there) h) (covered_is c f.state f.laid u other x (section_there u other here) g)
 
-  pub listed_rows_do_not_overlap : (p r s u a b : ℕ) (one other : InputRow) → Lists inputs plan p s a one → Lists inputs plan r u b other → (x : ℕ) → Covers a one.size x → Covers b other.size x → p ≡ r
+  pub listed_rows_do_not_overlap : (p r s u a b : ℕ) (one other : InputRow) → Lists c.inputs plan p s a one → Lists c.inputs plan r u b other → (x : ℕ) → Covers a one.size x → Covers b other.size x → p ≡ r
   listed_rows_do_not_overlap p r s u a b one other l m x h g =
-      rows_do_not_overlap the_case f.fits.state laid p r x
-      (row_covered the_case f.fits.state laid p s a x one l.there (row_there p s a one l) h) (row_covered the_case f.fits.state laid r u b x other m.there (row_there r u b other m) g)
+      rows_do_not_overlap c f.state f.laid p r x
+      (row_covered c f.state f.laid p s a x one l.there (row_there p s a one l) h) (row_covered c f.state f.laid r u b x other m.there (row_there r u b other m) g)
 
-  pub listed_symbols_stand : (i : ℕ) (symbol : SymbolRow) → slice_get inputs.symbols i ≡ Some symbol → (s address : ℕ) (row : InputRow) → Lists inputs plan symbol.row s address row → SymbolStands plan s address symbol
+  pub listed_symbols_stand : (i : ℕ) (symbol : SymbolRow) → slice_get c.inputs.symbols i ≡ Some symbol → (s address : ℕ) (row : InputRow) → Lists c.inputs plan symbol.row s address row → SymbolStands plan s address symbol
   listed_symbols_stand i symbol there s address row l =
-      let listed = has_there _ plan.symbols (subst (IsAmong (at_address symbol s (address + symbol.offset))) (sym (ap (λ (x : Layout). x.symbols) f.fits.listed))
-      (symbol_at the_case f.fits.state laid f.fits.found i symbol s address there (row_there symbol.row s address row l))) in
+      let listed = has_there _ plan.symbols (subst (IsAmong (at_address symbol s (address + symbol.offset))) (sym (ap (λ (x : Layout). x.symbols) f.listed))
+      (symbol_at c f.state f.laid f.found i symbol s address there (row_there symbol.row s address row l))) in
       record { index = listed.0; there = listed.2 ∙ ap Some listed.3 }
 
-  pub listed_locations_hold : (i : ℕ) (e : Expression) → slice_get (places_of f.script_tree inputs) i ≡ Some (SetLocation e) → LocationHolds script inputs options plan f i e
-  listed_locations_hold i e there =
-      let holds = locations_hold the_case f.fits.state laid i e there in
-      record { address = holds.address; value = holds.value; index = holds.index; there = ap (λ (l : Layout). slice_get l.locations holds.index) f.fits.listed ∙ holds.listed }
+  pub listed_locations_hold : (i : ℕ) (e : Expression) → slice_get (places_of c.commands c.inputs) i ≡ Some (SetLocation e) → LocationSettles c f.state.known plan i e
+  listed_locations_hold = (settles c plan f).locations

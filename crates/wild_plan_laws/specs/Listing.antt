@@ -1,19 +1,12 @@
 -- What holds of what a plan lists.
-use Rattle.std.specs.Prelude.{◌≡◌, ℕ, ◌+◌, ◌%◌, ◌^◌, ◌<◌, ◌≤◌, false, [], Some, Ok, slice_get}
-use Rattle.wild_expression_tree.specs.declared.tree.Expression.{Expression}
-use Rattle.wild_script.specs.Tree.{Bytes}
-use Rattle.wild_value_spec.specs.Value.{full_value}
-use Rattle.wild_plan_spec.specs.declared.options.PlanOptions.{PlanOptions}
+use Rattle.std.specs.Prelude.{◌≡◌, ℕ, ◌+◌, ◌%◌, ◌^◌, ◌<◌, ◌≤◌, false, Some, slice_get}
 use Rattle.wild_plan_spec.specs.declared.placed.PlacedInput.TheVariants.{Placed}
 use Rattle.wild_plan_spec.specs.declared.placed.PlacedSection.{PlacedSection}
 use Rattle.wild_plan_spec.specs.declared.row.InputRow.{InputRow}
 use Rattle.wild_plan_spec.specs.declared.row.InputTable.{InputTable}
 use Rattle.wild_plan_spec.specs.declared.row.SymbolRow.{SymbolRow}
 use Rattle.wild_plan_spec.specs.Chunks.{alignment_of}
-use Rattle.wild_plan_spec.specs.Fit.{IsPlan, case_of}
 use Rattle.wild_plan_spec.specs.Layout.{Layout}
-use Rattle.wild_plan_spec.specs.Points.{location_point}
-use Rattle.wild_plan_spec.specs.Scopes.{scope_of}
 
 -- it starts at a multiple of its alignment, is loaded where it starts, and ends below 2 ^ 64
 pub record SectionStands (place : PlacedSection) : Type 0 where
@@ -43,11 +36,3 @@ pub record RowStands (plan : Layout) (s address : ℕ) (row : InputRow) : Type 0
 pub record SymbolStands (plan : Layout) (s address : ℕ) (symbol : SymbolRow) : Type 0 where
   pub index : ℕ
   pub there : slice_get plan.symbols index ≡ Some (record { name = symbol.name; address = address + symbol.offset; «section» = Some s; hidden = false })
-
--- what the statement of the location counter at place i makes of it is listed, and its expression is worth that over the
--- finished layout
-pub record LocationHolds (script : Bytes) (inputs : InputTable) (options : PlanOptions) (plan : Layout) (f : IsPlan script inputs options plan) (i : ℕ) (e : Expression) : Type 0 where
-  pub address : ℕ
-  pub value : full_value (scope_of (case_of script inputs options f.script_tree)) i f.fits.state.known [] e (location_point i) ≡ Ok address
-  pub index : ℕ
-  pub there : slice_get plan.locations index ≡ Some (record { statement = i; address = address })

@@ -1,7 +1,8 @@
 //! Names, numbers and plans as they are printed.
 
-ghost use Rattle.std.specs.Prelude.{◌≡◌, ◌<◌, ◌++◌, ◌∷◌, OnOk, IfOk, string_bytes, decimal, flat_map};
-ghost use Rattle.wild_plan_spec.specs.Text.{is_plain, printed_byte, printed_name, printed_address, field, letter, letters_of, printed_flags, printed_fill, printed_region, more_names, printed_names, name_at, section_line, input_line, input_lines, location_line, printed_holder, printed_visibility, symbol_line};
+ghost use Rattle.std.specs.Prelude.{◌≡◌, ◌++◌, ◌∷◌, OnOk, IfOk, string_bytes, decimal, flat_map};
+ghost use Rattle.wild_plan_spec.specs.Text.{is_plain, printed_byte, printed_name, printed_address, field, letters_of, printed_flags, printed_fill, printed_region, more_names, printed_names, name_at, section_line, input_line, input_lines, location_line, printed_holder, printed_visibility, symbol_line};
+ghost use Rattle.wild_plan_text.specs.Letters.{letter_in};
 
 use bitflags::Flags;
 use std::alloc::{AllocError, Global};
@@ -124,24 +125,32 @@ pub(crate) fn push_number_field(out: &mut String, number: u64) -> Result<(), All
     write!(out, " {number}")
 }
 
-fn push_letter(out: &mut String, is_held: bool, byte: u8) -> Result<(), AllocError>
-    requires { byte < 128 }
-    ensures { OnOk result (string_bytes out.new ≡ string_bytes out.old ++ letter is_held byte) }
+// Appends the letter, where it is that of a flag that is set.
+fn push_letter(out: &mut String, flags: InputFlags, letter: u8) -> Result<(), AllocError>
+    ensures { OnOk result (string_bytes out.new ≡ string_bytes out.old ++ letter_in flags letter) }
 {
-    if is_held {
-        out.push(byte as char)?;
+    match InputFlags::of_letter(letter) {
+        Some(flag) if flags.contains(flag) => out.push(letter as char),
+        _ => Ok(()),
+    }
+}
+
+// Appends, in this order, those of the letters whose flags are set.
+#[tactic(auto, using(std::proofs::lemmas::List::flat_map_more))]
+fn push_letters_among(out: &mut String, flags: InputFlags, letters: &[u8]) -> Result<(), AllocError>
+    ensures { OnOk result (string_bytes out.new ≡ string_bytes out.old ++ flat_map (letter_in flags) letters.now) }
+{
+    for letter in letters {
+        push_letter(out, flags, *letter)?;
     }
     Ok(())
 }
 
+#[tactic(auto, using(crate::proofs::Letters::letters_are))]
 fn push_letters(out: &mut String, flags: InputFlags) -> Result<(), AllocError>
     ensures { OnOk result (string_bytes out.new ≡ string_bytes out.old ++ letters_of flags) }
 {
-    push_letter(out, flags.contains(InputFlags::ALLOC), b'A')?;
-    push_letter(out, flags.contains(InputFlags::WRITE), b'W')?;
-    push_letter(out, flags.contains(InputFlags::EXEC), b'X')?;
-    push_letter(out, flags.contains(InputFlags::NOBITS), b'B')?;
-    push_letter(out, flags.contains(InputFlags::TLS), b'T')
+    push_letters_among(out, flags, b"AWXBT")
 }
 
 // Appends a blank and the letters of the flags.

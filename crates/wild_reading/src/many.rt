@@ -11,29 +11,32 @@ use crate::stop::Stop;
 use sqlite_items::Items;
 use std::alloc::Global;
 
-/// What a cursor can read. `reads` is its grammar.
-pub trait Grammar: Sized {
+/// How a cursor reads an item. `reads` is its grammar.
+pub trait Grammar {
     ghost use Rattle.std.specs.Prelude.{List, ℕ};
 
-    ghost reads: { List ℕ → ℕ → ℕ → Self → ℕ → Type 0 };
+    /// What is read.
+    type Item: Drop;
 
-    fn read(cursor: &mut Cursor<'_>, alloc: Global) -> Result<Self, Stop>
+    ghost reads: { List ℕ → ℕ → ℕ → Self.Item → ℕ → Type 0 };
+
+    fn read(cursor: &mut Cursor<'_>, alloc: Global) -> Result<Self::Item, Stop>
         ensures read { Answers reads cursor.old cursor.new result }
         ensures shorter { OnOk result (ahead cursor.new < ahead cursor.old) };
 }
 
 /// Reads items up to the byte.
 #[tactic(auto, using(crate::proofs::Readers::repeating))]
-pub fn read_until<T: Grammar + Drop>(
+pub fn read_until<G: Grammar>(
     cursor: &mut Cursor<'_>,
     alloc: Global,
     close: u8,
-) -> Result<Items<T>, Stop>
-    ensures { Answers (Until (spec.begins close) T.reads) cursor.old cursor.new result }
+) -> Result<Items<G::Item>, Stop>
+    ensures { Answers (Until (spec.begins close) G.reads) cursor.old cursor.new result }
 {
     let mut items = Items::new(alloc);
     'items: while !cursor.begins(close) {
-        let item = T::read(cursor, alloc)?;
+        let item = G::read(cursor, alloc)?;
         items.push(item)?;
     }
     Ok(items)

@@ -1,7 +1,7 @@
 -- Outermost commands, and those that are in the brackets of others.
 use Rattle.std.specs.Prelude.{ℕ, true, false, List, Option, Some, None}
 use Rattle.wild_reading.specs.Bytes.{begins}
-use Rattle.wild_reading.specs.Reader.{Reader, ◌>>=◌, ◌>>◌, Give, Nothing, Until, Inside}
+use Rattle.wild_reading.specs.Reader.{Reader, ◌>>=◌, ◌>>◌, Give, Until, Inside}
 use Rattle.wild_reading.specs.Lex.{word, symbol}
 use Rattle.wild_expression_words.specs.Dialect.{Dialect}
 use Rattle.wild_script.specs.Words.{command_word}
@@ -11,7 +11,7 @@ use Rattle.wild_script.specs.declared.words.Nest as words
 use Rattle.wild_script.specs.declared.words.Nest.TheVariants as n
 use Rattle.wild_script.specs.Entry.{entry_command}
 use Rattle.wild_script.specs.Memory.{memory_command}
-use Rattle.wild_script.specs.Outermost.{assert_command, named_command, provide_command}
+use Rattle.wild_script.specs.Outermost.{assert_command, named_command, provide_command, sections_command}
 use Rattle.wild_script.specs.OutputFormat.{format_command}
 use Rattle.wild_script.specs.Phdrs.{phdrs_command}
 use Rattle.wild_script.specs.Version.{version_command}
@@ -42,7 +42,7 @@ nest_of inner kind = do
 abbrev pub word_command_of : Dialect → Commands → CommandWord → Reader Command
 word_command_of dialect inner (c.Nest kind) = nest_of inner kind
 word_command_of dialect inner c.OutputFormat = format_command
-word_command_of dialect inner c.Sections = Nothing
+word_command_of dialect inner c.Sections = sections_command dialect
 word_command_of dialect inner c.Entry = entry_command
 word_command_of dialect inner c.Version = version_command
 word_command_of dialect inner c.Provide = provide_command dialect false

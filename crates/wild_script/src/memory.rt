@@ -9,7 +9,7 @@ ghost use Rattle.wild_script.specs.Memory as spec;
 use sqlite_items::Items;
 use std::alloc::Global;
 use wild_expression::expression;
-use wild_reading::{Cursor, Stop};
+use wild_reading::{Cursor, Grammar, Stop, read_until};
 use wild_script_tree::{Command, MemoryRegion};
 
 #[tactic(auto, using(wild_reading::proofs::Readers::choosing), unfolding(crate::specs::Memory::origin_word))]
@@ -60,16 +60,24 @@ fn region(cursor: &mut Cursor<'_>, alloc: Global) -> Result<MemoryRegion, Stop>
     })
 }
 
-#[tactic(auto, using(wild_reading::proofs::Readers::repeating), unfolding(crate::specs::Memory::regions))]
+// How a region is read.
+struct RegionReader;
+
+impl Grammar for RegionReader {
+    type Item = MemoryRegion;
+
+    ghost reads = { spec.region first_grammar };
+
+    fn read(cursor: &mut Cursor<'_>, alloc: Global) -> Result<MemoryRegion, Stop> {
+        region(cursor, alloc)
+    }
+}
+
+#[tactic(auto, unfolding(crate::specs::Memory::regions))]
 fn regions(cursor: &mut Cursor<'_>, alloc: Global) -> Result<Items<MemoryRegion>, Stop>
     ensures { Answers (spec.regions first_grammar) cursor.old cursor.new result }
 {
-    let mut all = Items::new(alloc);
-    'regions: while !cursor.begins(b'}') {
-        let region = region(cursor, alloc)?;
-        all.push(region)?;
-    }
-    Ok(all)
+    read_until::<RegionReader>(cursor, alloc, b'}')
 }
 
 /// Reads what is after MEMORY.

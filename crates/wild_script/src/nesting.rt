@@ -9,7 +9,7 @@ ghost use Rattle.wild_script.specs.Nest as spec;
 use crate::entry::entry_command;
 use crate::format::format_command;
 use crate::memory::memory_command;
-use crate::outermost::{assert_command, named_command, provide_command};
+use crate::outermost::{assert_command, named_command, provide_command, sections_command};
 use crate::phdrs::phdrs_command;
 use crate::version::version_command;
 use crate::words::{CommandWord, Nest, command_word};
@@ -72,7 +72,7 @@ fn word_command(cursor: &mut Cursor<'_>, alloc: Global, word: CommandWord) -> Re
     match word {
         CommandWord::Nest(kind) => nest(cursor, alloc, kind),
         CommandWord::OutputFormat => format_command(cursor, alloc),
-        CommandWord::Sections => cursor.nothing(),
+        CommandWord::Sections => sections_command(cursor, alloc),
         CommandWord::Entry => entry_command(cursor, alloc),
         CommandWord::Version => version_command(cursor, alloc),
         CommandWord::Provide => provide_command(cursor, alloc, false),

@@ -9,7 +9,7 @@ ghost use Rattle.wild_script.specs.Phdrs as spec;
 use sqlite_items::{Boxed, Items};
 use std::alloc::Global;
 use wild_expression::{Expression, expression};
-use wild_reading::{Cursor, Stop, is_word};
+use wild_reading::{Cursor, Grammar, Stop, is_word, read_until};
 use wild_script_tree::{Command, Phdr};
 
 // The number of the type that these bytes name.
@@ -89,42 +89,36 @@ fn header_type(cursor: &mut Cursor<'_>, alloc: Global) -> Result<Boxed<Expressio
 }
 
 #[tactic(auto, using(wild_reading::proofs::Readers::reading), unfolding(crate::specs::Phdrs::flags_clause))]
-fn flags_clause(cursor: &mut Cursor<'_>, alloc: Global, header: Phdr) -> Result<Phdr, Stop>
-    ensures read { Answers (spec.flags_clause first_grammar header) cursor.old cursor.new result }
+fn flags_clause(cursor: &mut Cursor<'_>, alloc: Global, mut header: Phdr) -> Result<Phdr, Stop>
+    ensures read { Answers (spec.flags_clause first_grammar header.entry) cursor.old cursor.new result }
     ensures shorter { OnOk result (ahead cursor.new < ahead cursor.old) }
 {
     cursor.keyword(b"FLAGS")?;
     cursor.byte(b'(')?;
     let flags = expression(cursor, alloc)?;
     cursor.symbol(b')')?;
-    Ok(Phdr {
-        flags: Some(flags.into_inner()),
-        ..header
-    })
+    header.flags = Some(flags.into_inner());
+    Ok(header)
 }
 
 #[tactic(auto, using(wild_reading::proofs::Readers::reading), unfolding(crate::specs::Phdrs::filehdr_clause))]
-fn filehdr_clause(cursor: &mut Cursor<'_>, header: Phdr) -> Result<Phdr, Stop>
-    ensures read { Answers (spec.filehdr_clause header) cursor.old cursor.new result }
+fn filehdr_clause(cursor: &mut Cursor<'_>, mut header: Phdr) -> Result<Phdr, Stop>
+    ensures read { Answers (spec.filehdr_clause header.entry) cursor.old cursor.new result }
     ensures shorter { OnOk result (ahead cursor.new < ahead cursor.old) }
 {
     cursor.keyword(b"FILEHDR")?;
-    Ok(Phdr {
-        has_filehdr: true,
-        ..header
-    })
+    header.has_filehdr = true;
+    Ok(header)
 }
 
 #[tactic(auto, using(wild_reading::proofs::Readers::reading), unfolding(crate::specs::Phdrs::phdrs_clause))]
-fn phdrs_clause(cursor: &mut Cursor<'_>, header: Phdr) -> Result<Phdr, Stop>
-    ensures read { Answers (spec.phdrs_clause header) cursor.old cursor.new result }
+fn phdrs_clause(cursor: &mut Cursor<'_>, mut header: Phdr) -> Result<Phdr, Stop>
+    ensures read { Answers (spec.phdrs_clause header.entry) cursor.old cursor.new result }
     ensures shorter { OnOk result (ahead cursor.new < ahead cursor.old) }
 {
     cursor.keyword(b"PHDRS")?;
-    Ok(Phdr {
-        has_phdrs: true,
-        ..header
-    })
+    header.has_phdrs = true;
+    Ok(header)
 }
 
 #[tactic(auto, unfolding(crate::specs::Phdrs::ends_clauses))]
@@ -178,16 +172,24 @@ fn header(cursor: &mut Cursor<'_>, alloc: Global) -> Result<Phdr, Stop>
     Ok(whole)
 }
 
-#[tactic(auto, using(wild_reading::proofs::Readers::repeating), unfolding(crate::specs::Phdrs::headers))]
+// How a header is read.
+struct HeaderReader;
+
+impl Grammar for HeaderReader {
+    type Item = Phdr;
+
+    ghost reads = { spec.header first_grammar };
+
+    fn read(cursor: &mut Cursor<'_>, alloc: Global) -> Result<Phdr, Stop> {
+        header(cursor, alloc)
+    }
+}
+
+#[tactic(auto, unfolding(crate::specs::Phdrs::headers))]
 fn headers(cursor: &mut Cursor<'_>, alloc: Global) -> Result<Items<Phdr>, Stop>
     ensures { Answers (spec.headers first_grammar) cursor.old cursor.new result }
 {
-    let mut all = Items::new(alloc);
-    'headers: while !cursor.begins(b'}') {
-        let header = header(cursor, alloc)?;
-        all.push(header)?;
-    }
-    Ok(all)
+    read_until::<HeaderReader>(cursor, alloc, b'}')
 }
 
 /// Reads what is after PHDRS.

@@ -1,8 +1,10 @@
 //! Linker scripts as trees: their commands, statements and sections.
 #![tactic(auto)]
 
+mod copy;
 mod tree;
 
+pub use copy::copy_commands;
 pub use tree::{
     Command, ContentsCommand, Fill, Location, Matcher, MemoryRegion, OutputFormat, Phdr,
     ProvideSymbolDefinition, Section, SectionAttributes, SectionCommand, SectionPattern, Sections,

@@ -105,7 +105,7 @@ pub struct Matcher {
 }
 
 /// What the name of an input section must be.
-#[derive(Debug, Drop)]
+#[derive(Debug, Drop, PartialEq, Eq)]
 pub struct SectionPattern {
     pub name: Name,
     /// Its sections are in the order of their names.
@@ -113,19 +113,19 @@ pub struct SectionPattern {
 }
 
 /// What the location counter becomes.
-#[derive(Debug, Drop)]
+#[derive(Debug, Drop, PartialEq, Eq)]
 pub struct Location {
     pub address: Expression,
 }
 
 /// What is between the inputs of a section.
-#[derive(Debug, Drop)]
+#[derive(Debug, Drop, PartialEq, Eq)]
 pub struct Fill {
     pub value: Expression,
 }
 
 /// A memory region of MEMORY.
-#[derive(Debug, Drop)]
+#[derive(Debug, Drop, PartialEq, Eq)]
 pub struct MemoryRegion {
     pub name: Name,
     pub origin: Expression,
@@ -134,14 +134,14 @@ pub struct MemoryRegion {
 }
 
 /// What a symbol becomes.
-#[derive(Debug, Drop)]
+#[derive(Debug, Drop, PartialEq, Eq)]
 pub struct SymbolAssignment {
     pub name: Name,
     pub expr: Expression,
 }
 
 /// What a symbol becomes where nothing else defines it.
-#[derive(Debug, Drop)]
+#[derive(Debug, Drop, PartialEq, Eq)]
 pub struct ProvideSymbolDefinition {
     pub name: Name,
     pub value: Expression,
@@ -150,7 +150,7 @@ pub struct ProvideSymbolDefinition {
 }
 
 /// A program header of PHDRS.
-#[derive(Debug, Drop)]
+#[derive(Debug, Drop, PartialEq, Eq)]
 pub struct Phdr {
     pub name: Name,
     pub ptype: Expression,
@@ -162,7 +162,7 @@ pub struct Phdr {
 }
 
 /// The names of output formats: one alone, or also one for each endianness.
-#[derive(Debug, Drop)]
+#[derive(Debug, Drop, PartialEq, Eq)]
 pub struct OutputFormat {
     pub default: Name,
     pub big: Option<Name>,

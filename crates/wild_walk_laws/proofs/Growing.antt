@@ -11,17 +11,20 @@ use Rattle.wild_value_laws.specs.Stable.{Stays}
 use Rattle.wild_value_laws.proofs.Stable.{full_values_stay}
 use Rattle.wild_plan_spec.specs.declared.chunk.ChunkRow.{ChunkRow}
 use Rattle.wild_plan_spec.specs.declared.placed.PlacedLocation.{PlacedLocation}
+use Rattle.wild_plan_spec.specs.declared.placed.PlacedSymbol.{PlacedSymbol}
 use Rattle.wild_plan_spec.specs.Case.{Case}
 use Rattle.wild_plan_spec.specs.Fit.{IsLaid}
 use Rattle.wild_plan_spec.specs.Ground.{Ground, ground_of}
+use Rattle.wild_plan_spec.specs.Layout.{layout}
 use Rattle.wild_plan_spec.specs.Orphans.{places_of}
-use Rattle.wild_plan_spec.specs.Places.{Place, SetLocation, Wait, Open, Collect, Rows, Close, Idle}
+use Rattle.wild_plan_spec.specs.Places.{Place, SetLocation, Wait, Open, Collect, Rows, Close, Discard, Idle, Unbuilt}
 use Rattle.wild_plan_spec.specs.Points.{location_point}
 use Rattle.wild_plan_spec.specs.Scopes.{scope_of}
+use Rattle.wild_plan_spec.specs.Settled.{LocationSettles}
 use Rattle.wild_plan_spec.specs.Steps.{State, row_placed, rows_placed, chunk_placed, chunk_collected, section_ended_alone, section_ended_after, section_closed, dot_before, dot_noted, effect, step}
 use Rattle.wild_plan_spec.specs.Walk.{Stands}
 use Rattle.wild_plan_spec.proofs.Standing.{place_at}
-use Rattle.wild_walk_laws.specs.Holding.{IsKnown, LaidLocationHolds}
+use Rattle.wild_walk_laws.specs.Holding.{IsKnown}
 use Rattle.wild_walk_laws.proofs.Entries.{grown_entry, known_entry}
 use Rattle.wild_walk_laws.proofs.Steps.{bind_ok, by_state, by_row, by_rows, by_chunk, by_open, by_end, by_location}
 
@@ -72,7 +75,7 @@ module _ (ground : Ground) where
   unfolding effect chunk_collected section_closed section_ended_after
   effect_grows i (SetLocation e) st next goes =
       by_location (Grows st) ground i e st next goes (λ n value. record { known = λ x m h. h; locations = (record { statement = i; address = n } ∷ [], refl) })
-  effect_grows i (Open s) st next goes = by_open (Grows st) ground s st next goes (λ n up. record {
+  effect_grows i (Open s x) st next goes = by_open (Grows st) ground s st next goes (λ n up. record {
     known = λ x m h. grown_entry (Load s) n (with_number (Start s) n st.known) x m (grown_entry (Start s) n st.known x m h);
     locations = whole st.locations;
   })
@@ -84,7 +87,9 @@ module _ (ground : Ground) where
       grows_on st first.0 next (chunk_grows (ground.rows q) st first.0 first.1) (end_grows s first.0 next first.2)
   effect_grows i (Collect None m) st next goes = by_state (Grows st) st next goes (grows_not st)
   effect_grows i (Wait w task) st next goes = by_state (Grows st) st next goes (grows_not st)
+  effect_grows i (Discard x) st next goes = by_state (Grows st) st next goes (grows_not st)
   effect_grows i Idle st next goes = by_state (Grows st) st next goes (grows_not st)
+  effect_grows i Unbuilt st next goes = by_state (Grows st) st next goes (grows_not st)
 
   pub step_grows : (i : ℕ) (p : Place) (st next : State) → step ground i p st ≡ Ok next → Grows st next
   unfolding step
@@ -124,22 +129,21 @@ stayed (Ok m) s n e (inl early) = absurd early
 stayed (Ok m) s n e (inr same) = sym same ∙ e
 stayed (Err f) s n e h = absurd (cc)
 
-module _ (c : Case) (state : State) (f : IsLaid c state) where
+module _ (c : Case) (state : State) (f : IsLaid c state) (found : List PlacedSymbol) where
   -- what a location comes to, where what grows from it on is the end
-  location_holds : (i : ℕ) (e : Expression) (st next : State) → step (ground_of c f.order) i (SetLocation e) st ≡ Ok next → Grows next state → LaidLocationHolds c state i e
+  location_holds : (i : ℕ) (e : Expression) (st next : State) → step (ground_of c f.order) i (SetLocation e) st ≡ Ok next → Grows next state → LocationSettles c state.known (layout c state found) i e
   unfolding step effect
   location_holds i e st next goes =
-      by_location (λ (u : State). Grows u state → LaidLocationHolds c state i e) (ground_of c f.order) i e (dot_noted i (SetLocation e) st) next goes
+      by_location (λ (u : State). Grows u state → LocationSettles c state.known (layout c state found) i e) (ground_of c f.order) i e (dot_noted i (SetLocation e) st) next goes
       (λ n value on. let known = (dot_noted i (SetLocation e) st).known in record {
         address = n;
-        value = stayed _ _ n value (full_values_stay (scope_of c) i known state.known on.known max_height [] e (location_point i));
-        index = length (dot_noted i (SetLocation e) st).locations;
-        listed = ap (λ (xs : List PlacedLocation). slice_get xs (length (dot_noted i (SetLocation e) st).locations)) on.locations.1 ∙ at_seam (dot_noted i (SetLocation e) st).locations on.locations.0 _;
+        worth = stayed _ _ n value (full_values_stay (scope_of c) i known state.known on.known max_height [] e (location_point i));
+        listed = (length (dot_noted i (SetLocation e) st).locations, ap (λ (xs : List PlacedLocation). slice_get xs (length (dot_noted i (SetLocation e) st).locations)) on.locations.1 ∙ at_seam (dot_noted i (SetLocation e) st).locations on.locations.0 _);
       })
 
-pub locations_hold : (c : Case) (state : State) → IsLaid c state → (i : ℕ) (e : Expression) → slice_get (places_of c.commands c.inputs) i ≡ Some (SetLocation e) → LaidLocationHolds c state i e
-locations_hold c state f i e there =
+pub locations_hold : (c : Case) (state : State) → IsLaid c state → (found : List PlacedSymbol) → (i : ℕ) (e : Expression) → slice_get (places_of c.commands c.inputs) i ≡ Some (SetLocation e) → LocationSettles c state.known (layout c state found) i e
+locations_hold c state f found i e there =
     let places = places_of c.commands c.inputs in
     let low : i < length places = slice_get_within places i (SetLocation e) there in
-    location_holds c state f i e (f.stands.before i) (f.stands.before (i + 1)) (f.stands.each i (SetLocation e) low there)
+    location_holds c state f found i e (f.stands.before i) (f.stands.before (i + 1)) (f.stands.each i (SetLocation e) low there)
     (to_end (ground_of c f.order) places (length places) state f.stands (i + 1) (omega (arith, low)))

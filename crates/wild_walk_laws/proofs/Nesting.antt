@@ -58,14 +58,17 @@ one_brings n ps nest lay = record { nest = nest; lay = λ s low high. let same :
 contents_nest : (s number : ℕ) (cs : List ContentsCommand) → Nests (Inside s) (contents_places s number cs) (Inside s)
 contents_nest s number [] = refl
 contents_nest s number (OfMatcher m ∷ cs) = (Inside s, (refl, refl), contents_nest s (number + 1) cs)
+contents_nest s number (c ∷ cs) = (Inside s, refl, contents_nest s number cs)
 
 rest_own : (s : ℕ) (cs : List ContentsCommand) → IfSome (rest_chunk s cs) (λ q. q.«section» ≡ s)
 rest_own s [] = refl
 rest_own s (OfMatcher m ∷ cs) = tt
+rest_own s (c ∷ cs) = rest_own s cs
 
 contents_lay : (s : ℕ) (cs : List ContentsCommand) → Has (Lays (first_of s)) (contents_places s 0 cs ++ Close s (rest_chunk s cs) ∷ [])
 contents_lay s [] = inl refl
 contents_lay s (OfMatcher m ∷ cs) = inl refl
+contents_lay s (c ∷ cs) = inr (contents_lay s cs)
 
 section_brings : (s : ℕ) (x : Section) → Brings s (section_places s x) (s + 1)
 section_brings s x = one_brings s (section_places s x) (
@@ -81,6 +84,7 @@ section_brings s x = one_brings s (section_places s x) (
 discarding_nest : (n : ℕ) (cs : List ContentsCommand) → Nests (Free n) (discarding_places cs) (Free n)
 discarding_nest n [] = refl
 discarding_nest n (OfMatcher m ∷ cs) = (Free n, refl, discarding_nest n cs)
+discarding_nest n (c ∷ cs) = (Free n, refl, discarding_nest n cs)
 
 discard_nests : (n : ℕ) (x : Section) → Nests (Free n) (discard_places x) (Free n)
 discard_nests n x = (Free n, refl, nests_both (discarding_places x.commands) (Idle ∷ []) (Free n) (Free n) (Free n) (discarding_nest n x.commands) (Free n, refl, refl))
@@ -114,14 +118,14 @@ statements_bring n (x ∷ xs) =
 
 -- ---- orphans
 
-orphan_brings : (n : ℕ) → Brings n (Open n ∷ Rows (first_of n) ∷ Close n None ∷ []) (n + 1)
+orphan_brings : (n : ℕ) → Brings n (Open n None ∷ Rows (first_of n) ∷ Close n None ∷ []) (n + 1)
 orphan_brings n = one_brings n _ (Inside n, (refl, refl), (Inside n, (refl, refl), (Free (n + 1), (refl, tt, refl), refl))) (inr (inl refl))
 
 orphans_bring : (n : ℕ) (xs : List Name) → Brings n (orphan_places n xs) (n + length xs)
 orphans_bring n [] = let z : n ≡ n + 0 = omega arith in subst (Brings n []) z (none_bring n [] refl)
 orphans_bring n (x ∷ xs) =
     let z : n + 1 + length xs ≡ n + suc (length xs) = omega arith in
-    subst (Brings n (orphan_places n (x ∷ xs))) z (both_bring (Open n ∷ Rows (first_of n) ∷ Close n None ∷ []) (orphan_places (n + 1) xs) n (n + 1) _ (orphan_brings n) (orphans_bring (n + 1) xs))
+    subst (Brings n (orphan_places n (x ∷ xs))) z (both_bring (Open n None ∷ Rows (first_of n) ∷ Close n None ∷ []) (orphan_places (n + 1) xs) n (n + 1) _ (orphan_brings n) (orphans_bring (n + 1) xs))
 
 -- ---- all places
 

@@ -1,5 +1,5 @@
 -- What the statements of a plan's script are worth over its finished table.
-use Rattle.std.proofs.Common.{◌≡◌, ◌≢◌, ◌∙◌, ℕ, zero, suc, ◌+◌, ◌-◌, ◌==◌, Bool, true, false, cond, List, [], ◌∷◌, ◌++◌, Option, Some, None, Result, Ok, Err, refl, sym, ap, arith}
+use Rattle.std.proofs.Common.{◌≡◌, ◌≢◌, ◌∙◌, ℕ, zero, suc, ◌+◌, ◌-◌, ◌==◌, Bool, true, false, cond, List, [], ◌∷◌, ◌++◌, Option, Some, None, Ok, Err, refl, sym, ap, subst, arith}
 use Rattle.std.specs.Prelude.{slice_get}
 use Rattle.std.specs.Option.{option_to_list}
 use Rattle.std.proofs.lemmas.Bool.{eq-eqb}
@@ -9,7 +9,6 @@ use Rattle.wild_expression_tree.specs.declared.tree.AssertCommand.{AssertCommand
 use Rattle.wild_expression_tree.specs.declared.tree.Expression.{Expression}
 use Rattle.wild_script_tree.specs.declared.tree.ProvideSymbolDefinition.{ProvideSymbolDefinition}
 use Rattle.wild_value_spec.specs.declared.value.Value.{Value}
-use Rattle.wild_value_spec.specs.Answer.{◌>>=◌}
 use Rattle.wild_value_spec.specs.Known.{Known}
 use Rattle.wild_value_spec.specs.Marks.{max_height, over}
 use Rattle.wild_value_spec.specs.Scope.{Scope, definition_of}
@@ -17,8 +16,7 @@ use Rattle.wild_value_spec.specs.Value.{assert_statement, assert_value, full_val
 use Rattle.wild_plan_spec.specs.declared.place.Where.{Where}
 use Rattle.wild_plan_spec.specs.declared.placed.PlacedSymbol.{PlacedSymbol}
 use Rattle.wild_plan_spec.specs.Case.{Case}
-use Rattle.wild_plan_spec.specs.Conditions.{assert_holds, conditions, place_holds, task_holds}
-use Rattle.wild_plan_spec.specs.End.{final_symbols}
+use Rattle.wild_plan_spec.specs.Conditions.{conditions, place_holds, task_holds}
 use Rattle.wild_plan_spec.specs.Fates.{fates_of}
 use Rattle.wild_plan_spec.specs.Fit.{Fits}
 use Rattle.wild_plan_spec.specs.Layout.{Layout}
@@ -28,7 +26,7 @@ use Rattle.wild_plan_spec.specs.Places.{Place, SetLocation, Wait, Assign, Provid
 use Rattle.wild_plan_spec.specs.Points.{task_point}
 use Rattle.wild_plan_spec.specs.Scopes.{scope_of}
 use Rattle.wild_plan_spec.specs.Settled.{ConditionSettles, IsListed, IsSettled, LocationSettles, SymbolSettles}
-use Rattle.wild_plan_spec.specs.Symbols.{assignment_symbol, is_at, listed_symbol, place_symbol, provide_symbol, script_symbol, symbols, table_symbols, task_symbol}
+use Rattle.wild_plan_spec.specs.Symbols.{assignment_symbol, is_at, listed_symbol, place_symbol, script_symbol, symbols, table_symbols, task_symbol}
 use Rattle.wild_walk_laws.proofs.Growing.{locations_hold}
 use Rattle.wild_walk_laws.proofs.Steps.{bind_ok}
 
@@ -172,9 +170,7 @@ module _ (c : Case) (plan : Layout) (f : Fits c plan) where
       record { value = found.0; worth = found.1; holds = condition_nonzero scope known i w k found.0 found.1 }
 
   location_settles : (i : ℕ) (e : Expression) → slice_get places i ≡ Some (SetLocation e) → LocationSettles c known plan i e
-  location_settles i e there =
-      let held = locations_hold c f.state f.laid i e there in
-      record { address = held.address; worth = held.value; listed = rw f.listed (held.index, held.listed) }
+  location_settles i e there = subst (λ (p : Layout). LocationSettles c f.state.known p i e) (sym f.listed) (locations_hold c f.state f.laid f.found i e there)
 
   pub settles : IsSettled c known plan
   settles = record { locations = location_settles; assignments = assignment_settles; provides = provide_settles; conditions = condition_settles }

@@ -10,7 +10,7 @@ use Rattle.wild_plan_spec.specs.Fit.{IsLaid}
 use Rattle.wild_plan_spec.specs.Ground.{Ground, ground_of}
 use Rattle.wild_plan_spec.specs.Orphans.{places_of}
 use Rattle.wild_plan_spec.specs.Overlaps.{lowest_sharing}
-use Rattle.wild_plan_spec.specs.Places.{Place, SetLocation, Wait, Open, Collect, Rows, Close, Idle}
+use Rattle.wild_plan_spec.specs.Places.{Place, SetLocation, Wait, Open, Collect, Rows, Close, Discard, Idle, Unbuilt}
 use Rattle.wild_plan_spec.specs.Steps.{State, first_state, chunk_placed, chunk_collected, section_opened, section_ended_alone, section_ended_after, section_closed, dot_before, dot_noted, effect, step}
 use Rattle.wild_plan_spec.specs.Walk.{Stands}
 use Rattle.wild_walk_laws.specs.Nesting.{Zone, Free, Inside, Turns, Nests}
@@ -49,10 +49,13 @@ module _ (ground : Ground) (Holds : Zone → State → Type 0) where
     effect_passes (Free n) (SetLocation e) y i st next turn goes h = into (Free n) y next turn (by_location (Holds (Free n)) ground i e st next goes (λ m value. located n m _ st h))
     effect_passes (Free n) (Wait w task) y i st next turn goes h = into (Free n) y next turn (by_state (Holds (Free n)) st next goes h)
     effect_passes (Free n) (Collect None m) y i st next turn goes h = into (Free n) y next turn (by_state (Holds (Free n)) st next goes h)
+    effect_passes (Free n) (Discard z) y i st next turn goes h = into (Free n) y next turn (by_state (Holds (Free n)) st next goes h)
     effect_passes (Free n) Idle y i st next turn goes h = into (Free n) y next turn (by_state (Holds (Free n)) st next goes h)
-    effect_passes (Free n) (Open s) y i st next turn goes h = into (Inside n) y next turn.1 (opens n s st next turn.0 goes h)
+    effect_passes (Free n) Unbuilt y i st next turn goes h = into (Free n) y next turn (by_state (Holds (Free n)) st next goes h)
+    effect_passes (Free n) (Open s x) y i st next turn goes h = into (Inside n) y next turn.1 (opens n s st next turn.0 goes h)
     effect_passes (Inside s) (Collect (Some q) m) y i st next turn goes h = into (Inside s) y next turn.1 (placed s q st next turn.0 goes h)
     effect_passes (Inside s) (Rows q) y i st next turn goes h = into (Inside s) y next turn.1 (placed s q st next turn.0 goes h)
+    effect_passes (Inside s) Unbuilt y i st next turn goes h = into (Inside s) y next turn (by_state (Holds (Inside s)) st next goes h)
     effect_passes (Inside s) (Close u None) y i st next turn goes h = into (Free (s + 1)) y next turn.2 (ends s u st next turn.0 goes h)
     effect_passes (Inside s) (Close u (Some q)) y i st next turn goes h =
         let first = bind_ok (chunk_placed (ground.rows q) st) (section_ended_alone ground u) next goes in

@@ -1,21 +1,22 @@
 //! Laws about places, and about layouts of all of them.
 
-ghost use Rattle.std.specs.Prelude.{◌≡◌, ℕ, ◌+◌, ◌^◌, ◌<◌, Some, length, slice_get};
+ghost use Rattle.std.specs.Prelude.{◌≡◌, ℕ, ◌+◌, ◌^◌, ◌<◌, List, Some, length, slice_get};
 ghost use Rattle.wild_expression_tree.specs.declared.tree.Expression.{Expression};
 ghost use Rattle.wild_plan_spec.specs.declared.chunk.Kept.{Kept};
+ghost use Rattle.wild_plan_spec.specs.declared.placed.PlacedSymbol.{PlacedSymbol};
 ghost use Rattle.wild_plan_spec.specs.declared.row.InputTable.{InputTable};
 ghost use Rattle.wild_plan_spec.specs.declared.row.SymbolRow.{SymbolRow};
 ghost use Rattle.wild_plan_spec.specs.Case.{Case};
 ghost use Rattle.wild_plan_spec.specs.Fates.{fates_of, section_names};
 ghost use Rattle.wild_plan_spec.specs.Fit.{Fits, IsLaid};
-ghost use Rattle.wild_plan_spec.specs.Layout.{Layout};
+ghost use Rattle.wild_plan_spec.specs.Layout.{Layout, layout};
 ghost use Rattle.wild_plan_spec.specs.Orphans.{places_of};
 ghost use Rattle.wild_plan_spec.specs.Places.{SetLocation};
-ghost use Rattle.wild_plan_spec.specs.Settled.{IsSettled};
+ghost use Rattle.wild_plan_spec.specs.Settled.{IsSettled, LocationSettles};
 ghost use Rattle.wild_plan_spec.specs.Steps.{State};
 ghost use Rattle.wild_script_tree.specs.declared.tree.Command.{Command};
 ghost use Rattle.wild_value_spec.specs.Known.{Address};
-ghost use Rattle.wild_walk_laws.specs.Holding.{IsKnown, LaidLocationHolds, StandInPlace};
+ghost use Rattle.wild_walk_laws.specs.Holding.{IsKnown, StandInPlace};
 ghost use Rattle.wild_walk_laws.specs.Nesting.{Free, Nests};
 
 /// The places of a script and its orphans open and close all sections in the order of their numbers, one after the
@@ -25,10 +26,10 @@ pub fn places_nest()
 {}
 
 /// Where all places are laid out, each statement of the location counter in SECTIONS is listed with the value that its
-/// expression has over the finished layout.
+/// expression has over the finished layout, whatever symbols are found then.
 pub fn locations_hold()
-    ensures { (c : Case) (state : State) → IsLaid c state
-        → (i : ℕ) (e : Expression) → slice_get (places_of c.commands c.inputs) i ≡ Some (SetLocation e) → LaidLocationHolds c state i e }
+    ensures { (c : Case) (state : State) → IsLaid c state → (found : List PlacedSymbol)
+        → (i : ℕ) (e : Expression) → slice_get (places_of c.commands c.inputs) i ≡ Some (SetLocation e) → LocationSettles c state.known (layout c state found) i e }
 {}
 
 /// Where all places are laid out, each row whose address is known stands at a multiple of its alignment and ends below

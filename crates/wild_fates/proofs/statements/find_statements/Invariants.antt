@@ -4,4 +4,4 @@ use Rattle.wild_fates.specs.Shown.{shown_statements}
 use Rattle.wild_fates.proofs.statements.find_statements.Given as goal
 
 abbrev pub invariant-loop-command : goal.invariant-loop-command
-invariant-loop-command l = shown_statements l.statements ++ statements_of (drop l.command-index l.script.commands) ≡ statements_of l.script.commands
+invariant-loop-command l = shown_statements l.statements ++ statements_of (drop l.command-index l.commands) ≡ statements_of l.commands

@@ -1,0 +1,3 @@
+pub mod Rises
+pub mod Sections
+pub mod Commands

@@ -1,0 +1,6 @@
+//! What follows from the grammar of scripts.
+#![tactic(auto)]
+
+mod laws;
+
+pub use laws::scripts_rise;
