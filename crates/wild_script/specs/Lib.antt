@@ -1,4 +1,5 @@
 pub mod Entry
+pub mod Inputs
 pub mod Memory
 pub mod Nest
 pub mod Outermost
@@ -6,4 +7,5 @@ pub mod OutputFormat
 pub mod Phdrs
 pub mod Tree
 pub mod Version
+pub mod Versions
 pub mod Words

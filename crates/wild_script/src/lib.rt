@@ -3,6 +3,8 @@
 
 mod entry;
 mod format;
+mod input;
+mod inputs;
 mod memory;
 mod nesting;
 mod outermost;
@@ -11,8 +13,10 @@ mod phdrs;
 mod script;
 mod tree;
 mod version;
+mod versions;
 mod words;
 
+pub use input::{InputFault, InputKind, InputVisitor, Modifiers};
 pub use tree::LinkerScript;
 pub use wild_expression::{AssertCommand, Expression, parse_expression};
 pub use wild_reading::skip_comments_and_whitespace;

@@ -90,7 +90,7 @@ fn header_type(cursor: &mut Cursor<'_>, alloc: Global) -> Result<Boxed<Expressio
 
 #[tactic(auto, using(wild_reading::proofs::Readers::reading), unfolding(crate::specs::Phdrs::flags_clause))]
 fn flags_clause(cursor: &mut Cursor<'_>, alloc: Global, mut header: Phdr) -> Result<Phdr, Stop>
-    ensures read { Answers (spec.flags_clause first_grammar header.entry) cursor.old cursor.new result }
+    ensures read { Answers (spec.flags_clause first_grammar header) cursor.old cursor.new result }
     ensures shorter { OnOk result (ahead cursor.new < ahead cursor.old) }
 {
     cursor.keyword(b"FLAGS")?;
@@ -103,7 +103,7 @@ fn flags_clause(cursor: &mut Cursor<'_>, alloc: Global, mut header: Phdr) -> Res
 
 #[tactic(auto, using(wild_reading::proofs::Readers::reading), unfolding(crate::specs::Phdrs::filehdr_clause))]
 fn filehdr_clause(cursor: &mut Cursor<'_>, mut header: Phdr) -> Result<Phdr, Stop>
-    ensures read { Answers (spec.filehdr_clause header.entry) cursor.old cursor.new result }
+    ensures read { Answers (spec.filehdr_clause header) cursor.old cursor.new result }
     ensures shorter { OnOk result (ahead cursor.new < ahead cursor.old) }
 {
     cursor.keyword(b"FILEHDR")?;
@@ -113,7 +113,7 @@ fn filehdr_clause(cursor: &mut Cursor<'_>, mut header: Phdr) -> Result<Phdr, Sto
 
 #[tactic(auto, using(wild_reading::proofs::Readers::reading), unfolding(crate::specs::Phdrs::phdrs_clause))]
 fn phdrs_clause(cursor: &mut Cursor<'_>, mut header: Phdr) -> Result<Phdr, Stop>
-    ensures read { Answers (spec.phdrs_clause header.entry) cursor.old cursor.new result }
+    ensures read { Answers (spec.phdrs_clause header) cursor.old cursor.new result }
     ensures shorter { OnOk result (ahead cursor.new < ahead cursor.old) }
 {
     cursor.keyword(b"PHDRS")?;
