@@ -5,7 +5,7 @@ use Rattle.wild_reading.specs.Lex.{Word, sort_bracket}
 use Rattle.wild_expression_words.specs.Dialect.{first_grammar}
 use Rattle.wild_patterns.specs.Pattern as p
 use Rattle.wild_patterns.specs.Matcher.{file_matcher, keep_matcher}
-use Rattle.wild_statements.specs.Assignment.{set_value, change, changed_value, assigned_value, open_value, closed_value}
+use Rattle.wild_statements.specs.Assignment.{set_value, change, changed_value, assigned_value, tight_value, open_value, closed_value}
 use Rattle.wild_statements.specs.Provide.{provide_body}
 use Rattle.wild_script_tree.specs.declared.tree.Section.{Section}
 use Rattle.wild_section_statements.specs.Attribute.{attribute}
@@ -34,6 +34,10 @@ assigned_rises target = search (lexing, inner_value_rises) depth 20
 pub open_rises : (target : List ℕ) → Rises (open_value first_grammar target)
 unfolding open_value
 open_rises target = search (lexing, assigned_rises) depth 20
+
+tight_rises : (target : List ℕ) → Rises (tight_value first_grammar target)
+unfolding tight_value
+tight_rises target = search (lexing, assigned_rises) depth 20
 
 closed_rises : (target : List ℕ) → Rises (closed_value first_grammar target)
 unfolding closed_value
@@ -67,7 +71,7 @@ after_contents_word_rises file (Some found) = word_contents_rises found
 
 bare_contents_rises : (first : Word) → Rises (k.bare_contents first_grammar first)
 unfolding k.bare_contents k.assigned_contents k.counter_contents k.symbol_contents k.constructors check
-bare_contents_rises first = search (lexing, open_rises) depth 20
+bare_contents_rises first = search (lexing, tight_rises) depth 20
 
 contents_rises : Rises (k.contents first_grammar)
 unfolding k.contents k.contents_statement k.after_token k.bracket_contents

@@ -3,7 +3,7 @@ use Rattle.std.specs.Prelude.{ℕ, Bool, if◌then◌else◌, Option, Some, None
 use Rattle.std.specs.Option.{is_some}
 use Rattle.std.specs.Str.{bytes_eq}
 use Rattle.wild_reading.specs.Position.{Bytes}
-use Rattle.wild_reading.specs.Lex.{Word, and_end, after_symbol, word_at}
+use Rattle.wild_reading.specs.Lex.{Word, and_end, after_byte, after_symbol, word_at}
 use Rattle.wild_reading.specs.Reader.{Reader, Takes}
 use Rattle.wild_script_tree.specs.declared.tree.SectionAttributes.{SectionAttributes}
 use Rattle.wild_script_tree.specs.declared.tree.SectionAttributes.TheVariants as a
@@ -21,7 +21,7 @@ attribute_of content =
 -- the bracket that closes is at a position
 abbrev pub closed_attribute : Bytes → Option SectionAttributes → ℕ → Option (SectionAttributes × ℕ)
 closed_attribute b None i = None
-closed_attribute b (Some found) i = and_end found (after_symbol 41 b i)
+closed_attribute b (Some found) i = and_end found (after_byte 41 b i)
 
 -- after the token in the brackets
 abbrev pub named_attribute : Bytes → Option (Word × ℕ) → Option (SectionAttributes × ℕ)
@@ -33,7 +33,7 @@ abbrev pub opened_attribute : Bytes → Option ℕ → Option (SectionAttributes
 opened_attribute b None = None
 opened_attribute b (Some i) = named_attribute b (word_at b i)
 
--- an attribute in brackets, with the gaps between and after them, and the position after it
+-- an attribute in brackets, with the gaps between them, and the position after it
 unfoldable pub attribute_at : Bytes → ℕ → Option (SectionAttributes × ℕ)
 attribute_at b i = opened_attribute b (after_symbol 40 b i)
 

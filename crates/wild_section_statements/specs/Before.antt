@@ -13,6 +13,7 @@ use Rattle.wild_section_statements.specs.Attribute.{attribute, begins_attribute}
 unfoldable pub attribute_item : Section → Reader Section
 attribute_item s = do
   found ← attribute
+  gap
   Give (record s { attributes = Some found })
 
 -- an expression

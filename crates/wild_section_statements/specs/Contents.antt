@@ -8,7 +8,7 @@ use Rattle.wild_expression_words.specs.Dialect.{Dialect}
 use Rattle.wild_expression_words.specs.Words.{is_counter}
 use Rattle.wild_expression.specs.Parts.{assert_body}
 use Rattle.wild_patterns.specs.Matcher.{keep_matcher, file_matcher}
-use Rattle.wild_statements.specs.Assignment.{begins_assignment, open_value}
+use Rattle.wild_statements.specs.Assignment.{begins_assignment, tight_value}
 use Rattle.wild_statements.specs.Provide.{provide_body}
 use Rattle.wild_section_statements.specs.Words.{contents_word, is_constructors}
 use Rattle.wild_section_statements.specs.declared.words.ContentsWord.{ContentsWord}
@@ -61,18 +61,18 @@ after_contents_word dialect file (Some found) = word_contents dialect found
 unfoldable pub bracket_contents : Dialect → lexis.Word → Reader ContentsCommand
 bracket_contents dialect first = after_contents_word dialect first.content (contents_word first)
 
--- ---- where an assignment operator is ahead; a semicolon or none
+-- ---- where an assignment operator is ahead; directly after the value a semicolon or none
 
 -- what is assigned to the location counter
 unfoldable pub counter_contents : Dialect → List ℕ → Reader ContentsCommand
 counter_contents dialect name = do
-  x ← open_value dialect name
+  x ← tight_value dialect name
   Give (command.SetLocation (record { address = x }))
 
 -- what is assigned to a symbol
 unfoldable pub symbol_contents : Dialect → List ℕ → Reader ContentsCommand
 symbol_contents dialect name = do
-  x ← open_value dialect name
+  x ← tight_value dialect name
   Give (command.SymbolAssignment (record { name = name; expr = x }))
 
 -- what is assigned to a name

@@ -5,7 +5,7 @@ ghost use Rattle.wild_reading.specs.Only.{Answers};
 ghost use Rattle.wild_reading.specs.Position.{ahead};
 ghost use Rattle.wild_section_statements.specs.Attribute as spec;
 
-use wild_reading::{Cursor, Stop, after_symbol, is_word, word_at};
+use wild_reading::{Cursor, Stop, after_symbol, begins, is_word, word_at};
 use wild_script_tree::SectionAttributes;
 
 fn attribute_of(content: &[u8]) -> Option<SectionAttributes>
@@ -28,8 +28,8 @@ fn attribute_of(content: &[u8]) -> Option<SectionAttributes>
     }
 }
 
-// An attribute in brackets, with the gaps between and after them, and the position after it.
-#[tactic(auto, unfolding(crate::specs::Attribute::attribute_at))]
+// An attribute in brackets, with the gaps between them, and the position after it.
+#[tactic(auto, unfolding(crate::specs::Attribute::attribute_at, wild_reading::specs::Lex::after_byte))]
 fn attribute_at(bytes: &[u8], at: usize) -> Option<(SectionAttributes, usize)>
     ensures value { result ≡ spec.attribute_at bytes.now at }
     ensures within { IfSome result (λ x. (at < x.1) × (x.1 ≤ length bytes.now)) }
@@ -37,8 +37,11 @@ fn attribute_at(bytes: &[u8], at: usize) -> Option<(SectionAttributes, usize)>
     let open = after_symbol(bytes, at, b'(')?;
     let (word, close) = word_at(bytes, open)?;
     let attribute = attribute_of(word.content())?;
-    let end = after_symbol(bytes, close, b')')?;
-    Some((attribute, end))
+    if begins(bytes, close, b')') {
+        Some((attribute, close + 1))
+    } else {
+        None
+    }
 }
 
 /// Whether an attribute in brackets can be read whole.
@@ -49,7 +52,7 @@ pub fn begins_attribute(cursor: &Cursor<'_>) -> bool
     attribute_at(cursor.bytes(), cursor.position()).is_some()
 }
 
-/// Reads an attribute in brackets, and the gap after them.
+/// Reads an attribute in brackets.
 #[tactic(auto, using(wild_reading::proofs::Readers::leaves, wild_reading::proofs::Leaves::moves), unfolding(crate::specs::Attribute::attribute))]
 pub fn attribute(cursor: &mut Cursor<'_>) -> Result<SectionAttributes, Stop>
     ensures read { Answers spec.attribute cursor.old cursor.new result }

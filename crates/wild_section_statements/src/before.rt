@@ -18,6 +18,7 @@ fn attribute_item(cursor: &mut Cursor<'_>, mut section: Section) -> Result<Secti
     ensures shorter { OnOk result (ahead cursor.new < ahead cursor.old) }
 {
     let found = attribute(cursor)?;
+    cursor.gap()?;
     section.attributes = Some(found);
     Ok(section)
 }

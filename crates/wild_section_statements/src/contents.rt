@@ -15,7 +15,7 @@ use wild_names::Name;
 use wild_patterns::{file_matcher, keep_matcher};
 use wild_reading::{Cursor, Grammar, Stop, Token, read_until};
 use wild_script_tree::{ContentsCommand, Location, SymbolAssignment};
-use wild_statements::{begins_assignment, open_value, provide_body};
+use wild_statements::{begins_assignment, provide_body, tight_value};
 
 #[tactic(auto, using(wild_reading::proofs::Readers::reading), unfolding(crate::specs::Contents::keep_statement))]
 fn keep_statement(cursor: &mut Cursor<'_>, alloc: Global) -> Result<ContentsCommand, Stop>
@@ -97,7 +97,7 @@ fn counter_contents(
 ) -> Result<ContentsCommand, Stop>
     ensures { Answers (spec.counter_contents first_grammar name.now) cursor.old cursor.new result }
 {
-    let value = open_value(cursor, alloc, name)?;
+    let value = tight_value(cursor, alloc, name)?;
     Ok(ContentsCommand::SetLocation(Location {
         address: value.into_inner(),
     }))
@@ -111,7 +111,7 @@ fn symbol_contents(
 ) -> Result<ContentsCommand, Stop>
     ensures { Answers (spec.symbol_contents first_grammar name.now) cursor.old cursor.new result }
 {
-    let value = open_value(cursor, alloc, name)?;
+    let value = tight_value(cursor, alloc, name)?;
     let name = Name::new(alloc, name)?;
     Ok(ContentsCommand::SymbolAssignment(SymbolAssignment {
         name,

@@ -65,9 +65,7 @@ change_node op name x = node op (target_of name) x
 unfoldable pub set_value : Dialect → Reader Expression
 set_value dialect = do
   symbol 61
-  x ← expression dialect
-  gap
-  Give x
+  expression dialect
 
 -- one of these operators
 unfoldable pub change : Reader Operator
@@ -79,23 +77,31 @@ changed_value dialect name = do
   op ← change
   symbol 61
   x ← inner_by dialect Ternary
-  gap
   Give (change_node op name x.expression)
 
 -- what is assigned to a name
 unfoldable pub assigned_value : Dialect → List ℕ → Reader Expression
 assigned_value dialect name = Choice begins_set (set_value dialect) (changed_value dialect name)
 
--- what is assigned to a name; a semicolon or none
-unfoldable pub open_value : Dialect → List ℕ → Reader Expression
-open_value dialect name = do
+-- what is assigned to a name; directly after it a semicolon or none
+unfoldable pub tight_value : Dialect → List ℕ → Reader Expression
+tight_value dialect name = do
   x ← assigned_value dialect name
   optional_symbol 59
   Give x
 
--- what is assigned to a name, and a semicolon
+-- what is assigned to a name, and a gap; a semicolon or none
+unfoldable pub open_value : Dialect → List ℕ → Reader Expression
+open_value dialect name = do
+  x ← assigned_value dialect name
+  gap
+  optional_symbol 59
+  Give x
+
+-- what is assigned to a name, a gap, and a semicolon
 unfoldable pub closed_value : Dialect → List ℕ → Reader Expression
 closed_value dialect name = do
   x ← assigned_value dialect name
+  gap
   symbol 59
   Give x

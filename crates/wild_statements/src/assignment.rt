@@ -127,9 +127,7 @@ fn set_value(cursor: &mut Cursor<'_>, alloc: Global) -> Result<Boxed<Expression>
     ensures shorter { OnOk result (ahead cursor.new < ahead cursor.old) }
 {
     cursor.symbol(b'=')?;
-    let value = expression(cursor, alloc)?;
-    cursor.gap()?;
-    Ok(value)
+    expression(cursor, alloc)
 }
 
 #[tactic(auto, using(wild_reading::proofs::Readers::reading), unfolding(crate::specs::Assignment::changed_value, wild_expression::specs::Grammar::inner_by, wild_expression::specs::Grammar::inner_value))]
@@ -144,14 +142,13 @@ fn changed_value(
     let operator = pass_change(cursor)?;
     cursor.symbol(b'=')?;
     let operand = inner_value(cursor, alloc, Level::Ternary)?;
-    cursor.gap()?;
     let value = change_node(alloc, operator, name, operand.expression)?;
     Ok(value)
 }
 
-/// Reads an operator and an expression, each with the gap after it: the value that is assigned to the name.
+// An operator and an expression: the value that is assigned to the name.
 #[tactic(auto, using(wild_reading::proofs::Readers::choosing), unfolding(crate::specs::Assignment::assigned_value))]
-pub fn assigned_value(
+fn assigned_value(
     cursor: &mut Cursor<'_>,
     alloc: Global,
     name: &[u8],
@@ -166,7 +163,21 @@ pub fn assigned_value(
     }
 }
 
-/// Reads what is assigned to a name, and a semicolon or none.
+/// Reads what is assigned to a name; directly after it a semicolon or none.
+#[tactic(auto, using(wild_reading::proofs::Readers::reading), unfolding(crate::specs::Assignment::tight_value))]
+pub fn tight_value(
+    cursor: &mut Cursor<'_>,
+    alloc: Global,
+    name: &[u8],
+) -> Result<Boxed<Expression>, Stop>
+    ensures { Answers (spec.tight_value first_grammar name.now) cursor.old cursor.new result }
+{
+    let value = assigned_value(cursor, alloc, name)?;
+    cursor.optional_symbol(b';')?;
+    Ok(value)
+}
+
+/// Reads what is assigned to a name, and a gap; a semicolon or none.
 #[tactic(auto, using(wild_reading::proofs::Readers::reading), unfolding(crate::specs::Assignment::open_value))]
 pub fn open_value(
     cursor: &mut Cursor<'_>,
@@ -176,11 +187,12 @@ pub fn open_value(
     ensures { Answers (spec.open_value first_grammar name.now) cursor.old cursor.new result }
 {
     let value = assigned_value(cursor, alloc, name)?;
+    cursor.gap()?;
     cursor.optional_symbol(b';')?;
     Ok(value)
 }
 
-/// Reads what is assigned to a name, and a semicolon.
+/// Reads what is assigned to a name, a gap, and a semicolon.
 #[tactic(auto, using(wild_reading::proofs::Readers::reading), unfolding(crate::specs::Assignment::closed_value))]
 pub fn closed_value(
     cursor: &mut Cursor<'_>,
@@ -190,6 +202,7 @@ pub fn closed_value(
     ensures { Answers (spec.closed_value first_grammar name.now) cursor.old cursor.new result }
 {
     let value = assigned_value(cursor, alloc, name)?;
+    cursor.gap()?;
     cursor.symbol(b';')?;
     Ok(value)
 }

@@ -4,5 +4,5 @@
 mod assignment;
 mod provide;
 
-pub use assignment::{assigned_value, begins_assignment, closed_value, open_value};
+pub use assignment::{begins_assignment, closed_value, open_value, tight_value};
 pub use provide::provide_body;

@@ -6,10 +6,10 @@ ghost use Rattle.wild_reading.specs.Position.{ahead};
 ghost use Rattle.wild_expression_words.specs.Dialect.{first_grammar};
 ghost use Rattle.wild_statements.specs.Provide as spec;
 
-use wild_script_tree::ProvideSymbolDefinition;
 use std::alloc::Global;
 use wild_expression::expression;
 use wild_reading::{Cursor, Stop};
+use wild_script_tree::ProvideSymbolDefinition;
 
 /// Reads what is after PROVIDE or PROVIDE_HIDDEN.
 #[tactic(auto, using(wild_reading::proofs::Readers::reading), unfolding(crate::specs::Provide::provide_body))]
