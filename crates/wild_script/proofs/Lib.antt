@@ -1,2 +1,3 @@
+pub mod Braces
 pub mod Nests
 pub mod Trees

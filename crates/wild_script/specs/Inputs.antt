@@ -1,7 +1,7 @@
 -- The inputs that a script names, and how a visitor is shown them.
 use Rattle.std.specs.Prelude.{◌≡◌, ℕ, ◌+◌, ◌-◌, ◌^◌, min, Bool, true, false, if◌then◌else◌, List, [], ◌∷◌, ◌++◌, map, drop, nat_eq, codes, Result, Ok, Err}
 use Rattle.std.specs.List.{FoldsTo, starts_with}
-use Rattle.std.specs.Result.{result_map}
+use Rattle.std.specs.Result.{result_and}
 use Rattle.std.specs.Str.{is_utf8}
 use Rattle.wild_script_tree.specs.declared.tree.Command.{Command}
 use Rattle.wild_script_tree.specs.declared.tree.Command.TheOpen.{Command-F}
@@ -108,4 +108,4 @@ pub record Shows {V : Type 0} (step : Step V) (n : ℕ) (old : V) (xs : List Arg
 pub record Shown {V : Type 0} (step : Step V) (old : V) (xs : List Argument) (new : V) (result : Result (Unit {0}) InputFault) : Type 0 where
   pub end : End
   pub shows : Shows step 0 old xs new end
-  pub told : result ≡ result_map (λ _. tt) end
+  pub told : result ≡ result_and end (Ok tt)

@@ -1,8 +1,8 @@
 -- The version script of a script.
-use Rattle.std.specs.Prelude.{ℕ, List, Option, Some, None}
+use Rattle.std.specs.Prelude.{ℕ, List, [], ◌∷◌, Option, Some, None}
+use Rattle.std.specs.Option.{option_or}
 use Rattle.wild_script_tree.specs.declared.tree.Command.{Command, out-Command}
 use Rattle.wild_script_tree.specs.declared.tree.Command.TheOpen.{Command-F}
-use Rattle.std.specs.List.{find_map}
 
 -- what is in a VERSION, of one level
 abbrev version_layer : Command-F Command → Option (List ℕ)
@@ -15,4 +15,5 @@ version_content command = version_layer (out-Command command)
 
 -- what is in the first VERSION, if there is one
 unfoldable pub first_version : List Command → Option (List ℕ)
-first_version = find_map version_content
+first_version [] = None
+first_version (command ∷ commands) = option_or (version_content command) (first_version commands)

@@ -47,6 +47,7 @@ fn type_number(content: &[u8]) -> Option<u64>
     }
 }
 
+#[tactic(auto, using(wild_reading::proofs::Readers::reading))]
 fn number(
     cursor: &Cursor<'_>,
     alloc: Global,

@@ -6,23 +6,26 @@ ghost use Rattle.wild_script.specs.Version as spec;
 
 use std::alloc::Global;
 use wild_names::Name;
-use wild_reading::{Cursor, Stop};
+use wild_reading::{Cursor, Stop, begins};
 use wild_script_tree::Command;
 
 // The position of the brace that closes the one before the position.
+#[tactic(auto, using(crate::proofs::Braces::braces))]
 fn closing_brace(bytes: &[u8], start: usize) -> Option<usize>
     requires { start ≤ length bytes.now }
     ensures value { result ≡ spec.closing_brace bytes.now start }
     ensures within { IfSome result (λ end. (start ≤ end) × (end < length bytes.now)) }
 {
-    let mut open = 0usize;
+    let mut depth = 0usize;
     let mut at = start;
     'braces: while at < bytes.len() {
-        match bytes[at] {
-            b'{' => open += 1,
-            b'}' if open == 0 => return Some(at),
-            b'}' => open -= 1,
-            _ => {}
+        if begins(bytes, at, b'}') {
+            if depth == 0 {
+                return Some(at);
+            }
+            depth -= 1;
+        } else if begins(bytes, at, b'{') {
+            depth += 1;
         }
         at += 1;
     }

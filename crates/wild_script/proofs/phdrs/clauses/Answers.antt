@@ -4,8 +4,8 @@ use Rattle.wild_reading.proofs.Families.{fold_start, fold_step, fold_only, fold_
 use Rattle.wild_script.specs.Phdrs.{clauses}
 use Rattle.wild_script.proofs.phdrs.clauses.Goals as goal
 
-pub clauses-starts : goal.clauses-starts
-clauses-starts c = fold_start
+pub clauses-init : goal.clauses-init
+clauses-init c = fold_start
 
 pub clauses-preserved : goal.clauses-preserved
 clauses-preserved c = fold_step c.clauses.invariant (sym c.clauses-test.ensures) c.in_ok-whole.ensures.read.ok
