@@ -2,7 +2,7 @@
 use Rattle.std.specs.Prelude.{◌≡◌, ℕ, ◌+◌, ◌-◌, ◌^◌, min, Bool, true, false, if◌then◌else◌, List, [], ◌∷◌, ◌++◌, map, drop, nat_eq, codes, Result, Ok, Err}
 use Rattle.std.specs.List.{FoldsTo, starts_with}
 use Rattle.std.specs.Result.{result_and}
-use Rattle.std.specs.Str.{is_utf8}
+use Rattle.std.specs.Str.{IsUtf8}
 use Rattle.wild_script_tree.specs.declared.tree.Command.{Command}
 use Rattle.wild_script_tree.specs.declared.tree.Command.TheOpen.{Command-F}
 use Rattle.wild_script_tree.specs.declared.tree.Command.TheFolds.{fold-Command}
@@ -84,11 +84,11 @@ pub data Walk : ℕ → List Argument → List Visit → End → Type 0 where
   -- none are left
   done : {n : ℕ} → Walk n [] [] (Ok n)
   -- the first one is not UTF-8
-  strange : {n : ℕ} {x : Argument} {xs : List Argument} → is_utf8 x.name ≡ false → Walk n (x ∷ xs) [] (Err (fault.NotUtf8 n))
+  strange : {n : ℕ} {x : Argument} {xs : List Argument} → (IsUtf8 x.name → ⊥) → Walk n (x ∷ xs) [] (Err (fault.NotUtf8 n))
   -- after the first one no more are wanted
-  stopped : {n : ℕ} {x : Argument} {xs : List Argument} → is_utf8 x.name ≡ true → Walk n (x ∷ xs) ((input_of x, false) ∷ []) (Err fault.Stopped)
+  stopped : {n : ℕ} {x : Argument} {xs : List Argument} → IsUtf8 x.name → Walk n (x ∷ xs) ((input_of x, false) ∷ []) (Err fault.Stopped)
   -- after the first one more are wanted
-  shown : {n : ℕ} {x : Argument} {xs : List Argument} {visits : List Visit} {end : End} → is_utf8 x.name ≡ true → Walk (next_number n) xs visits end → Walk n (x ∷ xs) ((input_of x, true) ∷ visits) end
+  shown : {n : ℕ} {x : Argument} {xs : List Argument} {visits : List Visit} {end : End} → IsUtf8 x.name → Walk (next_number n) xs visits end → Walk n (x ∷ xs) ((input_of x, true) ∷ visits) end
 
 -- what one visit makes of a visitor, by what it is shown and what it answers
 abbrev pub Step : Type 0 → Type 1
