@@ -5,10 +5,10 @@ use Rattle.std.proofs.lemmas.List.{append-nil}
 use Rattle.wild_names.specs.declared.fault.Fault as f
 use Rattle.wild_plan_spec.specs.declared.options.PlanOptions.{PlanOptions}
 use Rattle.wild_plan_spec.specs.declared.row.InputTable.{InputTable}
-use Rattle.wild_plan_spec.specs.Fit.{IsThePlan, IsTheFault}
 use Rattle.wild_plan_spec.specs.Layout.{Layout}
 use Rattle.wild_plan_spec.specs.Names.{Name}
 use Rattle.wild_plan_spec.specs.Text.{plan_text}
+use Rattle.wild_plan.specs.Planned.{IsThePlan, IsTheFault}
 use Rattle.wild_cli.specs.Answers.{LoadTold, Plans}
 use Rattle.wild_cli.specs.Device.{Got, max_length}
 use Rattle.wild_cli.specs.Due.{Answer, PlanOf, is_too_long, task_of_script, MeetsPlan, Agree, Settles}

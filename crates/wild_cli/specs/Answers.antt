@@ -3,10 +3,10 @@ use Rattle.std.specs.Prelude.{◌≡◌, ◌<◌, ◌≤◌, ℕ, List, length, 
 use Rattle.std.specs.declared.alloc.Global.{Global}
 use Rattle.wild_plan_spec.specs.declared.options.PlanOptions.{PlanOptions}
 use Rattle.wild_plan_spec.specs.declared.row.InputTable.{InputTable}
-use Rattle.wild_plan_spec.specs.Fit.{IsThePlan, IsTheFault}
 use Rattle.wild_plan_spec.specs.Layout.{Layout}
 use Rattle.wild_plan_spec.specs.Names.{Name}
 use Rattle.wild_plan_spec.specs.Text.{plan_text}
+use Rattle.wild_plan.specs.Planned.{IsThePlan, IsTheFault}
 use Rattle.wild_cli.specs.Device.{Rose, max_length}
 use Rattle.wild_cli.specs.Due.{Answer}
 use Rattle.wild_cli.specs.declared.refusal.Refusal as r

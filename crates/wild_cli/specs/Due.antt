@@ -3,10 +3,10 @@ use Rattle.std.specs.Prelude.{◌≡◌, ◌⊎◌, ℕ, Bool, nat_lt, List, len
 use Rattle.wild_names.specs.declared.fault.Fault as f
 use Rattle.wild_plan_spec.specs.declared.options.PlanOptions.{PlanOptions}
 use Rattle.wild_plan_spec.specs.declared.row.InputTable.{InputTable}
-use Rattle.wild_plan_spec.specs.Fit.{IsPlan, IsFault}
 use Rattle.wild_plan_spec.specs.Layout.{Layout}
 use Rattle.wild_plan_spec.specs.Names.{Name}
 use Rattle.wild_plan_spec.specs.Text.{plan_text}
+use Rattle.wild_plan.specs.Planned.{IsPlan, IsFault}
 use Rattle.wild_cli.specs.Device.{max_length}
 use Rattle.wild_cli.specs.Refusal.{status_of}
 use Rattle.wild_cli.specs.Words.{plain_options}

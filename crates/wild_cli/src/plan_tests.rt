@@ -186,6 +186,143 @@ fn counters_that_are_not_built(rt: HostRuntime) -> Result<(), Fail> {
     Ok(())
 }
 
+const IDLE: &[u8] = b"section .a 0x0000000000000010 0x0000000000000010 0x0000000000000001 1 A - - -
+input 0 0x0000000000000010 .a f.o .a
+location 6 0x0000000000000010
+";
+
+#[test]
+fn commands_without_effect(rt: HostRuntime) -> Result<(), Fail> {
+    let cases: [Case<'_>; 2] = [
+        (
+            "each has a place",
+            b"GROUP(a.o -lc AS_NEEDED(b.o)) INPUT(c.o) ENTRY(x) VERSION { V { global: x; }; } OUTPUT_ARCH(arm) d.o
+SECTIONS { . = 16; .a : { *(.a) } }",
+            b"section,f.o,.a,1,1,A\n",
+            IDLE,
+        ),
+        ("nothing but a word", b"a.o", b"", b""),
+    ];
+    assert_texts(&rt, rt.alloc(), &cases)?;
+    Ok(())
+}
+
+#[test]
+fn statements_after_them(rt: HostRuntime) -> Result<(), Fail> {
+    let cases: [Case<'_>; 3] = [
+        (
+            "a symbol without value",
+            b"INPUT(a.o) ENTRY(x) x = 1 / 0;",
+            b"",
+            b"fault 22 DivisionByZero statement=2\n",
+        ),
+        (
+            "an ASSERT that is not built",
+            b"a.o OUTPUT_ARCH(arm) GROUP(b.o c.o) ASSERT(ORIGIN(r), m)",
+            b"",
+            b"fault 38 Unsupported index=3\n",
+        ),
+        (
+            "a counter that is not built",
+            b"VERSION { V { local: *; }; } SECTIONS { .a : { } . = x; }",
+            b"",
+            b"fault 38 Unsupported index=3\n",
+        ),
+    ];
+    assert_faults(&rt, rt.alloc(), &cases)?;
+    Ok(())
+}
+
+#[test]
+fn commands_that_are_not_built(rt: HostRuntime) -> Result<(), Fail> {
+    let cases: [Case<'_>; 3] = [
+        (
+            "memory regions",
+            b"ENTRY(x) MEMORY { r : ORIGIN = 0, LENGTH = 16 }",
+            b"",
+            b"fault 38 Unsupported index=1\n",
+        ),
+        (
+            "program headers",
+            b"SECTIONS { .a : { *(.a) } } PHDRS { text PT_LOAD; }",
+            b"",
+            b"fault 38 Unsupported index=3\n",
+        ),
+        (
+            "output formats",
+            b"OUTPUT_FORMAT(elf64-x86-64) SECTIONS { . = x; }",
+            b"",
+            b"fault 38 Unsupported index=0\n",
+        ),
+    ];
+    assert_faults(&rt, rt.alloc(), &cases)?;
+    Ok(())
+}
+
+#[test]
+fn sections_that_are_not_built(rt: HostRuntime) -> Result<(), Fail> {
+    let cases: [Case<'_>; 4] = [
+        (
+            "with an alignment",
+            b"SECTIONS { .a : { } .b : ALIGN(8) { *(.b) } }",
+            b"",
+            b"fault 38 Unsupported index=2\n",
+        ),
+        (
+            "with an address, which is discarded",
+            b"SECTIONS { /DISCARD/ 0x10 : { *(.b) } }",
+            b"",
+            b"fault 38 Unsupported index=0\n",
+        ),
+        (
+            "without a name",
+            b"SECTIONS { .a : { } \"\" : { *(.b) } }",
+            b"",
+            b"fault 38 Unsupported index=2\n",
+        ),
+        (
+            "with a second name, before that",
+            b"SECTIONS { .a : { } .a : ALIGN(8) { } }",
+            b"",
+            b"fault 38 Unsupported index=2\n",
+        ),
+    ];
+    assert_faults(&rt, rt.alloc(), &cases)?;
+    Ok(())
+}
+
+#[test]
+fn contents_that_are_not_built(rt: HostRuntime) -> Result<(), Fail> {
+    let cases: [Case<'_>; 4] = [
+        (
+            "a symbol",
+            b"SECTIONS { .a : { *(.a) x = 1; *(.b) } }",
+            b"",
+            b"fault 38 Unsupported index=2\n",
+        ),
+        (
+            "a condition, which is discarded",
+            b"SECTIONS { /DISCARD/ : { ASSERT(1, m) } }",
+            b"",
+            b"fault 38 Unsupported index=1\n",
+        ),
+        (
+            "a counter after a pattern without a reading",
+            b"SECTIONS { .a : { *(**) . = 1; } }",
+            b"",
+            b"fault 8 BadPattern statement=1 name=**\n",
+        ),
+        (
+            "a counter before one",
+            b"SECTIONS { .a : { . = 1; *(**) } }",
+            b"",
+            b"fault 38 Unsupported index=1\n",
+        ),
+    ];
+    assert_faults(&rt, rt.alloc(), &cases)?;
+    Ok(())
+}
+
 const FIRST: &[u8] = b"section .a 0x0000000000001000 0x0000000000001000 0x0000000000000004 4 A - - -
 input 0 0x0000000000001000 .a f.o .a
 location 0 0x0000000000001000

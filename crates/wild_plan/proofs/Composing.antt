@@ -3,7 +3,7 @@ use Rattle.std.proofs.Common.{◌≡◌, ◌∙◌, Option, List, length, None, 
 use Rattle.wild_names.specs.declared.fault.Fault.{Fault}
 use Rattle.wild_names.specs.declared.fault.Fault.TheVariants.{Syntax, UnclosedComment, UnsupportedNestedSort, TooDeep}
 use Rattle.wild_script.specs.Tree.{Bytes, tree, IsTree, IsParseFault}
-use Rattle.wild_script_tree.specs.declared.tree.Command.{Command}
+use Rattle.wild_script.specs.declared.tree.LinkerScript.{LinkerScript}
 use Rattle.wild_plan_spec.specs.declared.chunk.Chunk.{Chunk}
 use Rattle.wild_plan_spec.specs.declared.chunk.ChunkRow.{ChunkRow}
 use Rattle.wild_plan_spec.specs.declared.chunk.Kept.{Kept}
@@ -15,7 +15,7 @@ use Rattle.wild_plan_spec.specs.Checks.{checks, failing}
 use Rattle.wild_plan_spec.specs.End.{final_symbols}
 use Rattle.wild_plan_spec.specs.Facts.{Facts, facts_of}
 use Rattle.wild_plan_spec.specs.Fates.{fates_of}
-use Rattle.wild_plan_spec.specs.Fit.{AreOrdered, IsLaid, Fits, FaultIn, case_of, IsPlan, IsLaterFault, IsThePlan, IsTheFault}
+use Rattle.wild_plan_spec.specs.Fit.{AreOrdered, IsLaid, Fits, FaultIn}
 use Rattle.wild_plan_spec.specs.Ground.{Ground, ground_of}
 use Rattle.wild_plan_spec.specs.Layout.{Layout, layout}
 use Rattle.wild_plan_spec.specs.Orphans.{places_of}
@@ -26,7 +26,8 @@ use Rattle.wild_plan_spec.specs.Walk.{Stands, Refuses}
 use Rattle.wild_plan_spec.proofs.Unique.{plans_once, plan_or_fault, faults_once}
 use Rattle.wild_walk_laws.proofs.Settled.{settles}
 use Rattle.wild_plan.specs.declared.lists.Lists.{Lists}
-use Rattle.wild_plan.specs.Listed.{IsListed, shown_lists}
+use Rattle.wild_plan.specs.Planned.{case_of, IsPlan, IsLaterFault, IsThePlan, IsTheFault}
+use Rattle.wild_plan.specs.Listed.{AreLists, shown_lists}
 use Rattle.wild_plan.proofs.Sums.{sums_same}
 
 -- ---- cases
@@ -57,7 +58,7 @@ module _ (c : Case) (sound : failing (checks c) ≡ None) (order : Chunk → Lis
     end_refused fault h = inr (inr (record { state = state; laid = laid; refused = sym final_same ∙ h }))
 
     module _ (found : List PlacedSymbol) (finishes : final_symbols ground.scope state.known places ≡ Ok found) (fates : List (Option Kept)) (facts : List Facts) (lists : Lists)
-        (are_fates : fates ≡ fates_of c.commands c.inputs) (are_facts : facts ≡ facts_of c.commands c.inputs) (l : IsListed c.inputs fates facts state found lists) where
+        (are_fates : fates ≡ fates_of c.commands c.inputs) (are_facts : facts ≡ facts_of c.commands c.inputs) (l : AreLists c.inputs fates facts state found lists) where
       lists_same : shown_lists c.commands lists ≡ layout c state found
       lists_same = rw (l.sections, l.placements, l.locations, l.symbols, l.names, are_fates, are_facts, sums_same c state laid) refl
 
@@ -73,22 +74,22 @@ module _ (c : Case) (sound : failing (checks c) ≡ None) (order : Chunk → Lis
 -- ---- scripts
 
 -- what says that there is no tree
-none_by : (script : Bytes) (t : List Command) (fault : Fault) → tree script t → IsParseFault script fault → ⊥
+none_by : (script : Bytes) (t : LinkerScript) (fault : Fault) → tree script t → IsParseFault script fault → ⊥
 none_by script t (Syntax position) h f = f.none 256 t h
 none_by script t (UnclosedComment position) h f = f.none 256 t h
 none_by script t (UnsupportedNestedSort position) h f = f.none 256 t h
 none_by script t (TooDeep position) h f = f.none t h
 none_by script t g h f = f
 
-module _ (script : Bytes) (inputs : InputTable) (options : PlanOptions) (t : List Command) (is : IsTree script t) where
-  abbrev case : List Command → Case
+module _ (script : Bytes) (inputs : InputTable) (options : PlanOptions) (t : LinkerScript) (is : IsTree script t) where
+  abbrev case : LinkerScript → Case
   case u = case_of script inputs options u
 
   of_tree : (plan : Layout) → IsPlan script inputs options plan → Fits (case t) plan
-  of_tree plan h = subst (λ (u : List Command). Fits (case u) plan) (is.only 256 h.script_tree h.is_tree) h.fits
+  of_tree plan h = subst (λ (u : LinkerScript). Fits (case u) plan) (is.only 256 h.script_tree h.is_tree) h.fits
 
   fault_of_tree : (fault : Fault) → IsLaterFault script inputs options fault → FaultIn (case t) fault
-  fault_of_tree fault h = subst (λ (u : List Command). FaultIn (case u) fault) (is.only 256 h.script_tree h.is_tree) h.fault_in
+  fault_of_tree fault h = subst (λ (u : LinkerScript). FaultIn (case u) fault) (is.only 256 h.script_tree h.is_tree) h.fault_in
 
   -- the bytes have a tree
   no_parse_fault : (fault : Fault) → IsParseFault script fault → ⊥
@@ -108,11 +109,3 @@ module _ (script : Bytes) (inputs : InputTable) (options : PlanOptions) (t : Lis
     none_fits = λ plan g. plan_or_fault (case t) plan fault (of_tree plan g) f;
     only = λ other g. ⊎_elim (λ h. absurd (no_parse_fault other h)) (λ h. inl (faults_once (case t) fault other f (fault_of_tree other h))) g;
   }
-
--- the bytes have no tree
-pub the_parse_fault : (script : Bytes) (inputs : InputTable) (options : PlanOptions) (fault : Fault) → IsParseFault script fault → IsTheFault script inputs options fault
-the_parse_fault script inputs options fault h = record {
-  is = inl h;
-  none_fits = λ plan g. none_by script g.script_tree fault g.is_tree h;
-  only = λ other g. ⊎_elim (λ p. inr (p, h)) (λ later. absurd (none_by script later.script_tree fault later.is_tree h)) g;
-}

@@ -5,7 +5,6 @@ use Rattle.std.specs.Prelude.{slice_get}
 use Rattle.std.specs.Option.{unwrap_or}
 use denote.Ref.{Bor}
 use Rattle.wild_numbering.specs.Numbering.{number_of}
-use Rattle.wild_script.specs.Tree.{Bytes}
 use Rattle.wild_value_spec.specs.Scope.{Definition, Scope, line_of}
 use Rattle.wild_eval.specs.declared.definition.SymbolEntry.{SymbolEntry}
 use Rattle.wild_eval.specs.Scope as kept
@@ -19,7 +18,7 @@ use Rattle.wild_plan_spec.specs.Definitions.{definitions_in, entry_names}
 use Rattle.wild_plan_spec.specs.Facts as spec
 use Rattle.wild_plan_spec.specs.Fates.{section_names, fates_of}
 use Rattle.wild_plan_spec.specs.Ground.{Ground, ground_of}
-use Rattle.wild_plan_spec.specs.Names.{Name, or_empty}
+use Rattle.wild_plan_spec.specs.Names.{Bytes, Name, or_empty}
 use Rattle.wild_plan_spec.specs.Scopes.{entries_of, scope_of}
 use Rattle.wild_plan.specs.declared.facts.Facts.{Facts}
 use Rattle.wild_plan.specs.Entries.{shown_entries}

@@ -4,4 +4,4 @@ use Rattle.wild_plan.specs.declared.case.Case.{Case}
 
 -- a case, without that it is borrowed
 abbrev pub shown_case : Case → spec.Case
-shown_case c = record { script = c.script.now; tree = c.commands.now; inputs = c.inputs.now; options = c.options.now }
+shown_case c = record { script = c.script.now; commands = c.commands.now; inputs = c.inputs.now; options = c.options.now }

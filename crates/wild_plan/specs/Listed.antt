@@ -12,11 +12,11 @@ use Rattle.wild_plan.specs.declared.lists.Lists.{Lists}
 
 -- the plan of a script that has these lists
 abbrev pub shown_lists : List Command → Lists → Layout
-shown_lists t l = record { script = t; sections = l.sections; placements = l.placements; locations = l.locations; symbols = l.symbols; names = l.names }
+shown_lists cs l = record { commands = cs; sections = l.sections; placements = l.placements; locations = l.locations; symbols = l.symbols; names = l.names }
 
 -- the lists of a table whose rows have these fates and whose sections these facts, where this stands after the last place,
 -- and these are the symbols of the script
-pub record IsListed (inputs : InputTable) (fates : List (Option Kept)) (facts : List Facts) (state : State) (found : List PlacedSymbol) (lists : Lists) : Type 0 where
+pub record AreLists (inputs : InputTable) (fates : List (Option Kept)) (facts : List Facts) (state : State) (found : List PlacedSymbol) (lists : Lists) : Type 0 where
   pub sections : lists.sections ≡ placed_sections state.known 0 facts
   pub placements : lists.placements ≡ placed_inputs state.known 0 fates
   pub locations : lists.locations ≡ state.locations

@@ -14,7 +14,7 @@ use wild_eval::{Definition, SymbolEntry};
 use wild_fates::{Place, ScriptFates, Task};
 use wild_numbering::Numbering;
 use wild_plan_spec::{Chunk, Kept, SymbolRow, Where};
-use wild_script::ProvideSymbolDefinition;
+use wild_script_tree::ProvideSymbolDefinition;
 
 /// What a script and a table define.
 #[derive(Drop)]

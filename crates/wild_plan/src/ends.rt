@@ -1,6 +1,5 @@
 //! What is evaluated once all places are laid out: the symbols of the script, then its ASSERTs.
 
-ghost use Rattle.std.specs.Prelude.{◌≡◌};
 ghost use Rattle.wild_eval.specs.Scope.{path_of};
 ghost use Rattle.wild_fates.specs.Shown.{shown_place, shown_places, shown_task};
 ghost use Rattle.wild_plan_spec.specs.Conditions as spec;

@@ -93,7 +93,7 @@ pub fn find_basis<'a>(
 /// The ground of a case.
 pub fn ground_on<'a, 'b>(
     alloc: Global,
-    case: &Case<'a>,
+    case: &Case<'b>,
     definitions: &'a Definitions<'b>,
     basis: &'a Basis<'b>,
 ) -> Ground<'a>

@@ -32,27 +32,27 @@ pub struct Plan {
 
 impl Model for Plan {
     ghost use Rattle.std.specs.Coded.{codes};
-    ghost use Rattle.wild_expression_tree.specs.contracts.tree.Expression as e;
     ghost use Rattle.wild_plan_spec.specs.Layout.{Layout};
+    ghost use Rattle.wild_script_tree.specs.contracts.tree.Command as command;
 
     ghost Value = { Layout };
 
-    ghost coded = { Prim.hlevel (codes, e.the_row.coded) };
+    ghost coded = { Prim.hlevel (codes, command.the_row.coded) };
 
-    ghost view = { λ p. record { script = p.script; sections = p.lists.sections; placements = p.lists.placements; locations = p.lists.locations; symbols = p.lists.symbols; names = p.lists.names } };
+    ghost view = { λ p. record { commands = p.script.commands; sections = p.lists.sections; placements = p.lists.placements; locations = p.lists.locations; symbols = p.lists.symbols; names = p.lists.names } };
 }
 
 impl Plan {
     /// A plan of these lists.
     pub(crate) fn new(script: LinkerScript, lists: Lists) -> Plan
-        ensures { result ≡ shown_lists script lists }
+        ensures { result ≡ shown_lists script.commands lists }
     {
         Plan { script, lists }
     }
 
     /// The tree of the script.
     pub fn script(&self) -> &LinkerScript
-        ensures { result.now ≡ self.now.script }
+        ensures { result.now.commands ≡ self.now.commands }
     {
         &self.script
     }

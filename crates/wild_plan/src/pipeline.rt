@@ -2,19 +2,17 @@
 
 ghost use Rattle.std.specs.Prelude.{◌≡◌, ◌⊎◌, IfOk, IfErr};
 ghost use Rattle.wild_names.specs.declared.fault.Fault.TheVariants as fault;
-ghost use Rattle.wild_plan_spec.specs.Fit.{IsThePlan, IsTheFault, Fits, FaultIn};
-ghost use Rattle.wild_plan.specs.Basis.{IsBasis};
+ghost use Rattle.wild_plan_spec.specs.Fit.{Fits, FaultIn};
 ghost use Rattle.wild_plan.specs.Case.{shown_case};
-ghost use Rattle.wild_plan.specs.Checked.{IsChecked};
 ghost use Rattle.wild_plan.specs.Facts.{shown_all};
-ghost use Rattle.wild_plan.specs.Listed.{IsListed, shown_lists};
+ghost use Rattle.wild_plan.specs.Listed.{AreLists, shown_lists};
 ghost use Rattle.wild_plan.specs.Moves.{state_of};
+ghost use Rattle.wild_plan.specs.Planned.{IsThePlan, IsTheFault};
 
 use crate::case::Case;
 use crate::check::check;
-use crate::definitions::Definitions;
 use crate::ends::End;
-use crate::ground::{Basis, Ground, find_basis, ground_on};
+use crate::ground::{Ground, find_basis, ground_on};
 use crate::listing::{placed_inputs, placed_sections, row_names};
 use crate::lists::{Lists, Plan};
 use crate::symbols::table_symbols;
@@ -40,7 +38,7 @@ pub fn plan(
     let tree = LinkerScript::parse(alloc, script)?;
     let case = Case {
         script,
-        tree: &tree,
+        commands: tree.commands.as_slice(),
         inputs,
         options,
     };
@@ -48,30 +46,15 @@ pub fn plan(
     Ok(Plan::new(tree, lists))
 }
 
-/// The lists of the plan of a case: its checks and fates, what its rows say of sections and chunks, and then all that is
-/// found on them.
+/// The lists of the plan of a case: its checks and fates, what its rows say of sections and chunks, the walk, the symbols and
+/// conditions, and what is then listed.
 fn script_lists(alloc: Global, case: &Case<'_>) -> Result<Lists, Fault>
     ensures fits { IfOk result (λ l. Fits (shown_case case.now) (shown_lists case.now.commands.now l)) }
     ensures refused { IfErr result (λ f. (f ≡ fault.NoMemory) ⊎ FaultIn (shown_case case.now) f) }
 {
     let definitions = check(alloc, case)?;
     let basis = find_basis(alloc, case, &definitions)?;
-    lists_on(alloc, case, &definitions, &basis)
-}
-
-/// The lists of a case whose checks hold: the ground, the walk, the symbols and conditions, and what is then listed.
-fn lists_on(
-    alloc: Global,
-    case: &Case<'_>,
-    definitions: &Definitions<'_>,
-    basis: &Basis<'_>,
-) -> Result<Lists, Fault>
-    requires checked { IsChecked (shown_case case.now) definitions.now }
-    requires basis { IsBasis (shown_case case.now) basis.now }
-    ensures fits { IfOk result (λ l. Fits (shown_case case.now) (shown_lists case.now.commands.now l)) }
-    ensures refused { IfErr result (λ f. (f ≡ fault.NoMemory) ⊎ FaultIn (shown_case case.now) f) }
-{
-    let ground = ground_on(alloc, case, definitions, basis);
+    let ground = ground_on(alloc, case, &definitions, &basis);
     let places = definitions.script_fates.places.as_slice();
     let walk = lay_out(&ground, places)?;
     let end = End {
@@ -92,7 +75,7 @@ fn list_all(
     walk: Walk,
     found: Items<PlacedSymbol>,
 ) -> Result<Lists, NoMemory>
-    ensures { IfOk result (IsListed inputs.now fates.now (shown_all ground.now.facts.now) (state_of walk) found) }
+    ensures { IfOk result (AreLists inputs.now fates.now (shown_all ground.now.facts.now) (state_of walk) found) }
 {
     let alloc = ground.alloc;
     let addresses = &walk.addresses;

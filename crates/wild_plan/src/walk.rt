@@ -3,7 +3,6 @@
 ghost use Rattle.std.specs.Prelude.{◌≡◌, ◌⊎◌, length, IfOk, IfErr, OnOk};
 ghost use Rattle.wild_names.specs.declared.fault.Fault.TheVariants as fault;
 ghost use Rattle.wild_value_spec.specs.Answer.{Returns};
-ghost use Rattle.wild_value_spec.specs.Value.{sum_of};
 ghost use Rattle.wild_plan_spec.specs.Chunks.{largest};
 ghost use Rattle.wild_plan_spec.specs.Steps.{first_state, up, dot_before, dot_noted, section_opened, row_placed, rows_placed, chunk_placed, chunk_collected, section_ended, section_ended_alone, section_ended_after, section_closed, location_set, effect, step};
 ghost use Rattle.wild_plan_spec.specs.Walk.{Stands, Refuses};
@@ -17,10 +16,10 @@ use crate::points::location_point;
 use sqlite_items::Items;
 use std::alloc::{AllocError, Global};
 use wild_base::{Alignment, Fault, Name, NoMemory, alignment};
-use wild_eval::{Addresses, Evaluator, Path};
+use wild_eval::{Addresses, Evaluator, Path, sum};
 use wild_fates::Place;
 use wild_plan_spec::{Chunk, ChunkRow, PlacedLocation};
-use wild_script::Expression;
+use wild_script_tree::Expression;
 
 /// What stands before a place.
 #[derive(Drop)]
@@ -44,16 +43,6 @@ fn up(number: u64, alignment: Alignment) -> Result<u64, Fault>
             value: number,
             align: alignment.value(),
         }),
-    }
-}
-
-#[tactic(auto, unfolding(wild_value_spec::specs::Value::sum_of))]
-fn sum(left: u64, right: u64) -> Result<u64, Fault>
-    ensures { Returns result (sum_of left right) }
-{
-    match left.checked_add(right) {
-        Some(sum) => Ok(sum),
-        None => Err(Fault::Overflow { left, right }),
     }
 }
 
@@ -228,8 +217,10 @@ impl Walk {
             Place::Collect(None, _)
             | Place::SetLocation(_)
             | Place::Wait(_, _)
-            | Place::Open(_)
-            | Place::Idle => self.counter,
+            | Place::Open(_, _)
+            | Place::Discard(_)
+            | Place::Idle
+            | Place::Unbuilt => self.counter,
         }
     }
 
@@ -253,12 +244,11 @@ impl Walk {
     {
         match *place {
             Place::SetLocation(expression) => self.set_location(ground, number, expression),
-            Place::Wait(_, _) => Ok(()),
-            Place::Open(section) => self.open_section(ground, section),
+            Place::Open(section, _) => self.open_section(ground, section),
             Place::Collect(chunk, _) => self.collect_chunk(ground, chunk),
             Place::Rows(chunk) => self.place_chunk(ground.chunks.rows(chunk)),
             Place::Close(section, rest) => self.close_section(ground, section, rest),
-            Place::Idle => Ok(()),
+            Place::Wait(_, _) | Place::Discard(_) | Place::Idle | Place::Unbuilt => Ok(()),
         }
     }
 

@@ -13,7 +13,7 @@ use Rattle.wild_section_statements.specs.Before.{attribute_item, start_item, ite
 use Rattle.wild_section_statements.specs.Clauses.{in_brackets, at_clause, align_clause, clause, clauses}
 use Rattle.wild_section_statements.specs.Tail.{header_item, region_item, fill_item, region_or_fill, tail_item, tail}
 use Rattle.wild_section_statements.specs.Contents as k
-use Rattle.wild_section_statements.specs.Section.{section_head, section_body, named}
+use Rattle.wild_section_statements.specs.Section.{section_head, section_body, section_parts, named}
 use Rattle.wild_section_statements.specs.Statement as s
 use Rattle.wild_section_statements.specs.declared.words.ContentsWord.{ContentsWord}
 use Rattle.wild_section_statements.specs.declared.words.ContentsWord.TheVariants as kw
@@ -74,7 +74,7 @@ unfolding k.bare_contents k.assigned_contents k.counter_contents k.symbol_conten
 bare_contents_rises first = search (lexing, tight_rises) depth 20
 
 contents_rises : Rises (k.contents first_grammar)
-unfolding k.contents k.contents_statement k.after_token k.bracket_contents
+unfolding k.contents k.statements k.contents_statement k.after_token k.bracket_contents
 contents_rises = search (lexing, after_contents_word_rises, bare_contents_rises) depth 20
 
 -- ---- sections
@@ -92,7 +92,7 @@ unfolding tail tail_item region_or_fill header_item region_item fill_item
 tail_rises x = search lexing depth 20
 
 section_rises : (target : List ℕ) → Rises (named first_grammar target)
-unfolding named section_head section_body
+unfolding named section_parts section_head section_body
 section_rises target = search (lexing, items_rise, clauses_rise, contents_rises, tail_rises) depth 20
 
 -- ---- statements

@@ -82,7 +82,7 @@ pub enum SectionAttributes {
 }
 
 /// A statement in a section.
-#[derive(Debug, Drop)]
+#[derive(Debug, Drop, PartialEq, Eq)]
 pub enum ContentsCommand {
     Matcher(Matcher),
     /// `x = e`, or another operator

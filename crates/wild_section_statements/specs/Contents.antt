@@ -2,7 +2,7 @@
 use Rattle.std.specs.Prelude.{ℕ, Bool, true, false, List, Option, Some, None}
 use Rattle.wild_reading.specs.Bytes.{begins}
 use Rattle.wild_reading.specs.Reader.{Reader, ◌>>=◌, ◌>>◌, Give, check, Choice, If, Until}
-use Rattle.wild_reading.specs.Lex.{word, optional_symbol}
+use Rattle.wild_reading.specs.Lex.{word, symbol, optional_symbol}
 use Rattle.wild_reading.specs.Lex as lexis
 use Rattle.wild_expression_words.specs.Dialect.{Dialect}
 use Rattle.wild_expression_words.specs.Words.{is_counter}
@@ -102,5 +102,13 @@ contents_statement dialect = do
   after_token dialect first
 
 -- statements up to a brace
+unfoldable pub statements : Dialect → Reader (List ContentsCommand)
+statements dialect = Until (begins 125) (contents_statement dialect)
+
+-- statements in braces
 unfoldable pub contents : Dialect → Reader (List ContentsCommand)
-contents dialect = Until (begins 125) (contents_statement dialect)
+contents dialect = do
+  symbol 123
+  found ← statements dialect
+  symbol 125
+  Give found

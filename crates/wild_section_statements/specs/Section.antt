@@ -24,25 +24,27 @@ named_section name = record {
 }
 
 -- what is before the braces
-unfoldable pub section_head : Dialect → List ℕ → Reader Section
-section_head dialect name = do
-  s ← items dialect (named_section name)
+unfoldable pub section_head : Dialect → Section → Reader Section
+section_head dialect s = do
+  begun ← items dialect s
   symbol 58
-  clauses dialect s
+  clauses dialect begun
 
--- statements in braces
+-- what is in the braces
 unfoldable pub section_body : Dialect → Section → Reader Section
 section_body dialect s = do
-  symbol 123
   statements ← contents dialect
-  symbol 125
   Give (record s { commands = statements })
 
--- what is after its name; a comma or none
-unfoldable pub named : Dialect → List ℕ → Reader Section
-named dialect name = do
-  head ← section_head dialect name
+-- all that is said of a section; a comma or none
+unfoldable pub section_parts : Dialect → Section → Reader Section
+section_parts dialect s = do
+  head ← section_head dialect s
   body ← section_body dialect head
   whole ← tail dialect body
   optional_symbol 44
   Give whole
+
+-- what is after a name
+unfoldable pub named : Dialect → List ℕ → Reader Section
+named dialect name = section_parts dialect (named_section name)

@@ -14,7 +14,7 @@ use wild_script_tree::Section;
 
 #[tactic(auto, using(wild_reading::proofs::Readers::reading), unfolding(crate::specs::Before::attribute_item))]
 fn attribute_item(cursor: &mut Cursor<'_>, mut section: Section) -> Result<Section, Stop>
-    ensures read { Answers (spec.attribute_item section.entry) cursor.old cursor.new result }
+    ensures read { Answers (spec.attribute_item section) cursor.old cursor.new result }
     ensures shorter { OnOk result (ahead cursor.new < ahead cursor.old) }
 {
     let found = attribute(cursor)?;
@@ -25,7 +25,7 @@ fn attribute_item(cursor: &mut Cursor<'_>, mut section: Section) -> Result<Secti
 
 #[tactic(auto, using(wild_reading::proofs::Readers::reading), unfolding(crate::specs::Before::start_item))]
 fn start_item(cursor: &mut Cursor<'_>, alloc: Global, mut section: Section) -> Result<Section, Stop>
-    ensures read { Answers (spec.start_item first_grammar section.entry) cursor.old cursor.new result }
+    ensures read { Answers (spec.start_item first_grammar section) cursor.old cursor.new result }
     ensures shorter { OnOk result (ahead cursor.new < ahead cursor.old) }
 {
     let start = expression(cursor, alloc)?;

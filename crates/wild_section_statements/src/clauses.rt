@@ -26,7 +26,7 @@ fn in_brackets(cursor: &mut Cursor<'_>, alloc: Global) -> Result<Boxed<Expressio
 
 #[tactic(auto, using(wild_reading::proofs::Readers::reading), unfolding(crate::specs::Clauses::at_clause))]
 fn at_clause(cursor: &mut Cursor<'_>, alloc: Global, mut section: Section) -> Result<Section, Stop>
-    ensures read { Answers (spec.at_clause first_grammar section.entry) cursor.old cursor.new result }
+    ensures read { Answers (spec.at_clause first_grammar section) cursor.old cursor.new result }
     ensures shorter { OnOk result (ahead cursor.new < ahead cursor.old) }
 {
     cursor.keyword(b"AT")?;
@@ -41,7 +41,7 @@ fn align_clause(
     alloc: Global,
     mut section: Section,
 ) -> Result<Section, Stop>
-    ensures read { Answers (spec.align_clause first_grammar section.entry) cursor.old cursor.new result }
+    ensures read { Answers (spec.align_clause first_grammar section) cursor.old cursor.new result }
     ensures shorter { OnOk result (ahead cursor.new < ahead cursor.old) }
 {
     cursor.keyword(b"ALIGN")?;

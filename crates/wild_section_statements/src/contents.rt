@@ -194,10 +194,20 @@ impl Grammar for ContentsReader {
     }
 }
 
-/// Reads statements up to a closing brace.
-#[tactic(auto, unfolding(crate::specs::Contents::contents))]
+#[tactic(auto, unfolding(crate::specs::Contents::statements))]
+fn statements(cursor: &mut Cursor<'_>, alloc: Global) -> Result<Items<ContentsCommand>, Stop>
+    ensures { Answers (spec.statements first_grammar) cursor.old cursor.new result }
+{
+    read_until::<ContentsReader>(cursor, alloc, b'}')
+}
+
+/// Reads statements in braces.
+#[tactic(auto, using(wild_reading::proofs::Readers::reading), unfolding(crate::specs::Contents::contents))]
 pub fn contents(cursor: &mut Cursor<'_>, alloc: Global) -> Result<Items<ContentsCommand>, Stop>
     ensures { Answers (spec.contents first_grammar) cursor.old cursor.new result }
 {
-    read_until::<ContentsReader>(cursor, alloc, b'}')
+    cursor.symbol(b'{')?;
+    let found = statements(cursor, alloc)?;
+    cursor.symbol(b'}')?;
+    Ok(found)
 }

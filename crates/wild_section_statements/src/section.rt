@@ -32,13 +32,12 @@ fn named_section(alloc: Global, name: &[u8]) -> Result<Section, NoMemory>
 }
 
 #[tactic(auto, using(wild_reading::proofs::Readers::reading), unfolding(crate::specs::Section::section_head))]
-fn section_head(cursor: &mut Cursor<'_>, alloc: Global, name: &[u8]) -> Result<Section, Stop>
-    ensures { Answers (spec.section_head first_grammar name.now) cursor.old cursor.new result }
+fn section_head(cursor: &mut Cursor<'_>, alloc: Global, section: Section) -> Result<Section, Stop>
+    ensures { Answers (spec.section_head first_grammar section) cursor.old cursor.new result }
 {
-    let named = named_section(alloc, name)?;
-    let section = items(cursor, alloc, named)?;
+    let begun = items(cursor, alloc, section)?;
     cursor.symbol(b':')?;
-    clauses(cursor, alloc, section)
+    clauses(cursor, alloc, begun)
 }
 
 #[tactic(auto, using(wild_reading::proofs::Readers::reading), unfolding(crate::specs::Section::section_body))]
@@ -47,23 +46,29 @@ fn section_body(
     alloc: Global,
     mut section: Section,
 ) -> Result<Section, Stop>
-    ensures { Answers (spec.section_body first_grammar section.entry) cursor.old cursor.new result }
+    ensures { Answers (spec.section_body first_grammar section) cursor.old cursor.new result }
 {
-    cursor.symbol(b'{')?;
     let commands = contents(cursor, alloc)?;
-    cursor.symbol(b'}')?;
     section.commands = commands;
     Ok(section)
 }
 
-/// Reads what is after the name of a section.
-#[tactic(auto, using(wild_reading::proofs::Readers::reading), unfolding(crate::specs::Section::named))]
-pub fn named(cursor: &mut Cursor<'_>, alloc: Global, name: &[u8]) -> Result<Section, Stop>
-    ensures { Answers (spec.named first_grammar name.now) cursor.old cursor.new result }
+#[tactic(auto, using(wild_reading::proofs::Readers::reading), unfolding(crate::specs::Section::section_parts))]
+fn section_parts(cursor: &mut Cursor<'_>, alloc: Global, section: Section) -> Result<Section, Stop>
+    ensures { Answers (spec.section_parts first_grammar section) cursor.old cursor.new result }
 {
-    let head = section_head(cursor, alloc, name)?;
+    let head = section_head(cursor, alloc, section)?;
     let body = section_body(cursor, alloc, head)?;
     let whole = tail(cursor, alloc, body)?;
     cursor.optional_symbol(b',')?;
     Ok(whole)
+}
+
+/// Reads what is after the name of a section.
+#[tactic(auto, using(wild_reading::proofs::Readers::reading))]
+pub fn named(cursor: &mut Cursor<'_>, alloc: Global, name: &[u8]) -> Result<Section, Stop>
+    ensures { Answers (spec.named first_grammar name.now) cursor.old cursor.new result }
+{
+    let section = named_section(alloc, name)?;
+    section_parts(cursor, alloc, section)
 }

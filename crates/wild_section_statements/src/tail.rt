@@ -17,7 +17,7 @@ fn header_item(
     alloc: Global,
     mut section: Section,
 ) -> Result<Section, Stop>
-    ensures read { Answers (spec.header_item section.entry) cursor.old cursor.new result }
+    ensures read { Answers (spec.header_item section) cursor.old cursor.new result }
     ensures shorter { OnOk result (ahead cursor.new < ahead cursor.old) }
 {
     cursor.symbol(b':')?;
@@ -32,7 +32,7 @@ fn region_item(
     alloc: Global,
     mut section: Section,
 ) -> Result<Section, Stop>
-    ensures read { Answers (spec.region_item section.entry) cursor.old cursor.new result }
+    ensures read { Answers (spec.region_item section) cursor.old cursor.new result }
     ensures shorter { OnOk result (ahead cursor.new < ahead cursor.old) }
 {
     cursor.symbol(b'>')?;
@@ -43,7 +43,7 @@ fn region_item(
 
 #[tactic(auto, using(wild_reading::proofs::Readers::reading), unfolding(crate::specs::Tail::fill_item))]
 fn fill_item(cursor: &mut Cursor<'_>, alloc: Global, mut section: Section) -> Result<Section, Stop>
-    ensures read { Answers (spec.fill_item first_grammar section.entry) cursor.old cursor.new result }
+    ensures read { Answers (spec.fill_item first_grammar section) cursor.old cursor.new result }
     ensures shorter { OnOk result (ahead cursor.new < ahead cursor.old) }
 {
     cursor.symbol(b'=')?;

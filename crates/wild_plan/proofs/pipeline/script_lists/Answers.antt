@@ -1,16 +1,16 @@
--- The walk, the symbols and conditions, and the lists.
+-- The checks, the walk, the symbols and conditions, and the lists.
 use Rattle.std.proofs.Common.{ap, inl, inr, ⊎_elim, ◌∙◌}
 use Rattle.std.proofs.lemmas.Result.{err_from_is_err_and}
 use Rattle.wild_fates.specs.Shown.{shown_places}
 use Rattle.wild_plan.specs.Case.{shown_case}
 use Rattle.wild_plan.proofs.Composing.{walk_refused, end_refused, lists_fit}
-use Rattle.wild_plan.proofs.pipeline.lists_on.Goals as goal
+use Rattle.wild_plan.proofs.pipeline.script_lists.Goals as goal
 
 pub returns-in_err-walk-clause-refused : goal.returns-in_err-walk-clause-refused
 returns-in_err-walk-clause-refused c =
-    let p = err_from_is_err_and c.from_residual.result c.from_residual.ensures.1 in
-    let checked = c.requires.checked in
-    let basis = c.requires.basis in
+    let p = err_from_is_err_and c.from_residual-in_err-walk.result c.from_residual-in_err-walk.ensures.1 in
+    let checked = c.in_ok-definitions.ensures.sound in
+    let basis = c.in_ok-basis.ensures in
     let places = ap shown_places c.as_slice-places.ensures ∙ checked.fates.places in
     rw (p.1, p.2) (⊎_elim (λ h. inl h)
     (λ h. inr (walk_refused (shown_case c.args.case.now) checked.sound _ basis.ordered _ c.ground_on-ground.ensures.ground _ places _ h))
@@ -19,8 +19,8 @@ returns-in_err-walk-clause-refused c =
 pub returns-in_err-found-clause-refused : goal.returns-in_err-found-clause-refused
 returns-in_err-found-clause-refused c =
     let p = err_from_is_err_and c.from_residual-in_err-found.result c.from_residual-in_err-found.ensures.1 in
-    let checked = c.requires.checked in
-    let basis = c.requires.basis in
+    let checked = c.in_ok-definitions.ensures.sound in
+    let basis = c.in_ok-basis.ensures in
     let places = ap shown_places c.as_slice-places.ensures ∙ checked.fates.places in
     rw (p.1, p.2) (⊎_elim (λ h. inl h)
     (λ h. inr (end_refused (shown_case c.args.case.now) checked.sound _ basis.ordered _ c.ground_on-ground.ensures.ground _ places _ c.in_ok-walk.ensures.laid_out _ h))
@@ -28,8 +28,8 @@ returns-in_err-found-clause-refused c =
 
 pub returns-clause-fits : goal.returns-clause-fits
 returns-clause-fits c =
-    let checked = c.requires.checked in
-    let basis = c.requires.basis in
+    let checked = c.in_ok-definitions.ensures.sound in
+    let basis = c.in_ok-basis.ensures in
     let places = ap shown_places c.as_slice-places.ensures ∙ checked.fates.places in
     lists_fit (shown_case c.args.case.now) checked.sound _ basis.ordered _ c.ground_on-ground.ensures.ground _ places _ c.in_ok-walk.ensures.laid_out _ c.in_ok-found.ensures _ _ _
     (c.as_slice-fates.ensures ∙ checked.fates.fates)
