@@ -1,2 +1,5 @@
-pub mod Sorts
+pub mod Braces
+pub mod FirstVersion
+pub mod Nests
+pub mod Shown
 pub mod Trees

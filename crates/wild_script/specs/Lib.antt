@@ -1,9 +1,11 @@
-pub mod Assignment
-pub mod Contents
-pub mod Matcher
+pub mod Entry
+pub mod Inputs
+pub mod Memory
+pub mod Nest
 pub mod Outermost
-pub mod Pattern
-pub mod Provide
-pub mod Section
+pub mod OutputFormat
+pub mod Phdrs
 pub mod Tree
+pub mod Version
+pub mod Versions
 pub mod Words

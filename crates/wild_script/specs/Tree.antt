@@ -8,8 +8,9 @@ use Rattle.wild_reading.specs.Bytes.{is_end}
 use Rattle.wild_reading.specs.Reader.{Reader, ◌>>=◌, ◌>>◌, Give, Until}
 use Rattle.wild_reading.specs.Lex.{gap}
 use Rattle.wild_reading.specs.Only.{IsOpenComment, IsNestedSort}
-use Rattle.wild_script.specs.Outermost.{command}
-use Rattle.wild_script_tree.specs.declared.tree.LinkerScript.{LinkerScript}
+use Rattle.wild_expression_words.specs.Dialect.{Dialect, first_grammar}
+use Rattle.wild_script.specs.Nest.{command}
+use Rattle.wild_script.specs.declared.tree.LinkerScript.{LinkerScript}
 use Rattle.wild_script_tree.specs.declared.tree.Command.{Command}
 
 -- the bytes of a script
@@ -19,21 +20,21 @@ Bytes = positions.Bytes
 -- ---- scripts
 
 -- commands to the end of the bytes
-unfoldable pub commands : Reader (List Command)
-commands = Until is_end command
+unfoldable pub commands : Dialect → Reader (List Command)
+commands dialect = Until is_end (command dialect)
 
 -- a gap and commands
-unfoldable pub script : Reader LinkerScript
-script = do
+unfoldable pub script : Dialect → Reader LinkerScript
+script dialect = do
   gap
-  all ← commands
+  all ← commands dialect
   Give (record { commands = all })
 
 -- ---- trees
 
 -- the whole of the bytes is read as this tree, within that depth
 unfoldable pub tree_within : ℕ → Bytes → LinkerScript → Type 0
-tree_within depth b t = script b depth 0 t (length b)
+tree_within depth b t = script first_grammar b depth 0 t (length b)
 
 -- the whole of the bytes is read as this tree, within the limit of depth
 abbrev pub tree : Bytes → LinkerScript → Type 0

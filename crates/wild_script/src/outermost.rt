@@ -1,31 +1,21 @@
-//! Reads outermost commands.
+//! Reads outermost commands that hold no others.
 
-ghost use Rattle.std.specs.Prelude.{◌<◌, OnOk};
 ghost use Rattle.wild_reading.specs.Only.{Answers};
-ghost use Rattle.wild_reading.specs.Position.{ahead};
+ghost use Rattle.wild_expression_words.specs.Dialect.{first_grammar};
 ghost use Rattle.wild_script.specs.Outermost as spec;
 
-use crate::assignment::open_value;
-use crate::provide::provide_body;
-use wild_script_tree::{Command, Location, SectionCommand, Sections};
-use crate::words::{CommandWord, command_word};
-use sqlite_items::Items;
 use std::alloc::Global;
 use wild_expression::assert_body;
 use wild_expression_words::is_counter;
 use wild_names::Name;
-use wild_reading::{Cursor, Stop, read_until};
-
-#[tactic(auto, unfolding(crate::specs::Outermost::section_statements))]
-fn section_statements(cursor: &mut Cursor<'_>, alloc: Global) -> Result<Items<SectionCommand>, Stop>
-    ensures { Answers spec.section_statements cursor.old cursor.new result }
-{
-    read_until(cursor, alloc, b'}')
-}
+use wild_reading::{Cursor, Stop};
+use wild_script_tree::{Command, Location, Sections};
+use wild_section_statements::section_statements;
+use wild_statements::{begins_assignment, open_value, provide_body};
 
 #[tactic(auto, using(wild_reading::proofs::Readers::reading), unfolding(crate::specs::Outermost::sections))]
 fn sections(cursor: &mut Cursor<'_>, alloc: Global) -> Result<Sections, Stop>
-    ensures { Answers spec.sections cursor.old cursor.new result }
+    ensures { Answers (spec.sections first_grammar) cursor.old cursor.new result }
 {
     cursor.symbol(b'{')?;
     let commands = section_statements(cursor, alloc)?;
@@ -33,26 +23,33 @@ fn sections(cursor: &mut Cursor<'_>, alloc: Global) -> Result<Sections, Stop>
     Ok(Sections { commands })
 }
 
+/// Reads what is after SECTIONS.
 #[tactic(auto, using(wild_reading::proofs::Readers::reading), unfolding(crate::specs::Outermost::sections_command))]
-fn sections_command(cursor: &mut Cursor<'_>, alloc: Global) -> Result<Command, Stop>
-    ensures { Answers spec.sections_command cursor.old cursor.new result }
+pub fn sections_command(cursor: &mut Cursor<'_>, alloc: Global) -> Result<Command, Stop>
+    ensures { Answers (spec.sections_command first_grammar) cursor.old cursor.new result }
 {
     let sections = sections(cursor, alloc)?;
     Ok(Command::Sections(sections))
 }
 
+/// Reads what is after ASSERT.
 #[tactic(auto, using(wild_reading::proofs::Readers::reading), unfolding(crate::specs::Outermost::assert_command))]
-fn assert_command(cursor: &mut Cursor<'_>, alloc: Global) -> Result<Command, Stop>
-    ensures { Answers spec.assert_command cursor.old cursor.new result }
+pub fn assert_command(cursor: &mut Cursor<'_>, alloc: Global) -> Result<Command, Stop>
+    ensures { Answers (spec.assert_command first_grammar) cursor.old cursor.new result }
 {
     let body = assert_body(cursor, alloc)?;
     cursor.optional_symbol(b';')?;
     Ok(Command::Assert(body))
 }
 
+/// Reads what is after PROVIDE or PROVIDE_HIDDEN.
 #[tactic(auto, using(wild_reading::proofs::Readers::reading), unfolding(crate::specs::Outermost::provide_command))]
-fn provide_command(cursor: &mut Cursor<'_>, alloc: Global, hidden: bool) -> Result<Command, Stop>
-    ensures { Answers (spec.provide_command hidden) cursor.old cursor.new result }
+pub fn provide_command(
+    cursor: &mut Cursor<'_>,
+    alloc: Global,
+    hidden: bool,
+) -> Result<Command, Stop>
+    ensures { Answers (spec.provide_command first_grammar hidden) cursor.old cursor.new result }
 {
     let provide = provide_body(cursor, alloc, hidden)?;
     Ok(Command::Provide(provide))
@@ -60,7 +57,7 @@ fn provide_command(cursor: &mut Cursor<'_>, alloc: Global, hidden: bool) -> Resu
 
 #[tactic(auto, using(wild_reading::proofs::Readers::reading), unfolding(crate::specs::Outermost::location_command))]
 fn location_command(cursor: &mut Cursor<'_>, alloc: Global, name: &[u8]) -> Result<Command, Stop>
-    ensures { Answers (spec.location_command name.now) cursor.old cursor.new result }
+    ensures { Answers (spec.location_command first_grammar name.now) cursor.old cursor.new result }
 {
     let value = open_value(cursor, alloc, name)?;
     Ok(Command::SetLocation(Location {
@@ -70,7 +67,7 @@ fn location_command(cursor: &mut Cursor<'_>, alloc: Global, name: &[u8]) -> Resu
 
 #[tactic(auto, using(wild_reading::proofs::Readers::reading), unfolding(crate::specs::Outermost::symbol_definition))]
 fn symbol_definition(cursor: &mut Cursor<'_>, alloc: Global, name: &[u8]) -> Result<Command, Stop>
-    ensures { Answers (spec.symbol_definition name.now) cursor.old cursor.new result }
+    ensures { Answers (spec.symbol_definition first_grammar name.now) cursor.old cursor.new result }
 {
     let value = open_value(cursor, alloc, name)?;
     let name = Name::new(alloc, name)?;
@@ -82,7 +79,7 @@ fn symbol_definition(cursor: &mut Cursor<'_>, alloc: Global, name: &[u8]) -> Res
 
 #[tactic(auto, using(wild_reading::proofs::Readers::choosing), unfolding(crate::specs::Outermost::assignment_command))]
 fn assignment_command(cursor: &mut Cursor<'_>, alloc: Global, name: &[u8]) -> Result<Command, Stop>
-    ensures { Answers (spec.assignment_command name.now) cursor.old cursor.new result }
+    ensures { Answers (spec.assignment_command first_grammar name.now) cursor.old cursor.new result }
 {
     if is_counter(name) {
         location_command(cursor, alloc, name)
@@ -91,42 +88,22 @@ fn assignment_command(cursor: &mut Cursor<'_>, alloc: Global, name: &[u8]) -> Re
     }
 }
 
-fn word_command(cursor: &mut Cursor<'_>, alloc: Global, word: CommandWord) -> Result<Command, Stop>
-    ensures { Answers (spec.word_command word) cursor.old cursor.new result }
+#[tactic(auto, using(wild_reading::proofs::Readers::reading), unfolding(crate::specs::Outermost::argument))]
+fn argument(cursor: &Cursor<'_>, alloc: Global, name: &[u8]) -> Result<Command, Stop>
+    ensures { Answers (spec.argument name.now) cursor.now cursor.now result }
 {
-    match word {
-        CommandWord::Sections => sections_command(cursor, alloc),
-        CommandWord::Provide => provide_command(cursor, alloc, false),
-        CommandWord::ProvideHidden => provide_command(cursor, alloc, true),
-        CommandWord::Assert => assert_command(cursor, alloc),
-        CommandWord::Group
-        | CommandWord::Input
-        | CommandWord::AsNeeded
-        | CommandWord::OutputArch
-        | CommandWord::OutputFormat
-        | CommandWord::Entry
-        | CommandWord::Version
-        | CommandWord::Memory
-        | CommandWord::Phdrs => cursor.nothing(),
-    }
+    let name = Name::new(alloc, name)?;
+    Ok(Command::Arg(name))
 }
 
-#[tactic(auto, unfolding(crate::specs::Outermost::after_word))]
-fn after_word(cursor: &mut Cursor<'_>, alloc: Global, name: &[u8]) -> Result<Command, Stop>
-    ensures { Answers (spec.after_word name.now) cursor.old cursor.new result }
+/// Reads what is after a name.
+#[tactic(auto, using(wild_reading::proofs::Readers::choosing), unfolding(crate::specs::Outermost::named_command))]
+pub fn named_command(cursor: &mut Cursor<'_>, alloc: Global, name: &[u8]) -> Result<Command, Stop>
+    ensures { Answers (spec.named_command first_grammar name.now) cursor.old cursor.new result }
 {
-    match command_word(name) {
-        None => assignment_command(cursor, alloc, name),
-        Some(word) => word_command(cursor, alloc, word),
+    if begins_assignment(cursor) {
+        assignment_command(cursor, alloc, name)
+    } else {
+        argument(cursor, alloc, name)
     }
-}
-
-/// Reads an outermost command.
-#[tactic(auto, using(wild_reading::proofs::Readers::reading), unfolding(crate::specs::Outermost::command))]
-pub fn command(cursor: &mut Cursor<'_>, alloc: Global) -> Result<Command, Stop>
-    ensures read { Answers spec.command cursor.old cursor.new result }
-    ensures shorter { OnOk result (ahead cursor.new < ahead cursor.old) }
-{
-    let first = cursor.word()?;
-    after_word(cursor, alloc, first.content())
 }

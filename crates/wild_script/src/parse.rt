@@ -5,7 +5,7 @@ ghost use Rattle.wild_names.specs.declared.fault.Fault.TheVariants.{NoMemory};
 ghost use Rattle.wild_script.specs.Tree.{IsTree, IsParseFault};
 
 use crate::script::script;
-use wild_script_tree::LinkerScript;
+use crate::tree::LinkerScript;
 use std::alloc::Global;
 use wild_names::Fault;
 use wild_reading::{Cursor, MAX_DEPTH};

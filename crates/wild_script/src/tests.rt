@@ -1,8 +1,9 @@
 use crate::{
-    AssertCommand, Command, ContentsCommand, Expression, LinkerScript, Matcher,
-    ProvideSymbolDefinition, Section, SectionCommand, SectionPattern, Sections,
+    AssertCommand, Command, ContentsCommand, Expression, LinkerScript, Matcher, MemoryRegion,
+    OutputFormat, Phdr, ProvideSymbolDefinition, Section, SectionCommand, SectionPattern, Sections,
     skip_comments_and_whitespace,
 };
+use sqlite_items::Items;
 use std::alloc::{AllocError, Global};
 use std::process::Abort;
 use std::test::Fail;
@@ -41,18 +42,13 @@ fn push_matcher(out: &mut String, matcher: &Matcher) -> Result<(), AllocError> {
     out.push(')')
 }
 
-fn push_section(out: &mut String, section: &Section) -> Result<(), AllocError> {
-    push_name(out, &section.output_section_name)?;
-    out.push(':')?;
-    for command in section.commands.as_slice() {
-        let ContentsCommand::Matcher(matcher) = command;
-        push_matcher(out, matcher)?;
-    }
-    out.push(';')
-}
-
 fn push_value(alloc: Global, out: &mut String, value: &Expression) -> Result<(), AllocError> {
     out.push_str(format!(in alloc; "={value:?};")?.as_str())
+}
+
+fn push_text(out: &mut String, name: &Name) -> Result<(), AllocError> {
+    push_name(out, name)?;
+    out.push(';')
 }
 
 fn push_provide(
@@ -72,13 +68,40 @@ fn push_assert(alloc: Global, out: &mut String, assert: &AssertCommand) -> Resul
     push_value(alloc, out, assert.expression.get())
 }
 
+fn push_contents(
+    alloc: Global,
+    out: &mut String,
+    statement: &ContentsCommand,
+) -> Result<(), AllocError> {
+    match statement {
+        ContentsCommand::Matcher(matcher) => push_matcher(out, matcher),
+        ContentsCommand::SymbolAssignment(assignment) => {
+            push_name(out, &assignment.name)?;
+            push_value(alloc, out, &assignment.expr)
+        }
+        ContentsCommand::Provide(provide) => push_provide(alloc, out, provide),
+        ContentsCommand::SetLocation(location) => push_value(alloc, out, &location.address),
+        ContentsCommand::Constructors => out.push('*'),
+        ContentsCommand::Assert(assert) => push_assert(alloc, out, assert),
+    }
+}
+
+fn push_section(alloc: Global, out: &mut String, section: &Section) -> Result<(), AllocError> {
+    push_name(out, &section.output_section_name)?;
+    out.push(':')?;
+    for command in section.commands.as_slice() {
+        push_contents(alloc, out, command)?;
+    }
+    out.push(';')
+}
+
 fn push_statement(
     alloc: Global,
     out: &mut String,
     statement: &SectionCommand,
 ) -> Result<(), AllocError> {
     match statement {
-        SectionCommand::Section(section) => push_section(out, section.get()),
+        SectionCommand::Section(section) => push_section(alloc, out, section.get()),
         SectionCommand::SetLocation(location) => push_value(alloc, out, &location.address),
         SectionCommand::Assert(assert) => push_assert(alloc, out, assert),
         SectionCommand::Provide(provide) => push_provide(alloc, out, provide),
@@ -97,9 +120,73 @@ fn push_sections(alloc: Global, out: &mut String, sections: &Sections) -> Result
     out.push('}')
 }
 
-fn push_command(alloc: Global, out: &mut String, command: &Command) -> Result<(), AllocError> {
+fn push_region(alloc: Global, out: &mut String, region: &MemoryRegion) -> Result<(), AllocError> {
+    push_name(out, &region.name)?;
+    push_value(alloc, out, &region.origin)?;
+    push_value(alloc, out, &region.length)
+}
+
+// The type, the flags, and a mark for each of FILEHDR and PHDRS.
+fn push_header(alloc: Global, out: &mut String, header: &Phdr) -> Result<(), AllocError> {
+    push_name(out, &header.name)?;
+    push_value(alloc, out, &header.ptype)?;
+    if let Some(flags) = &header.flags {
+        push_value(alloc, out, flags)?;
+    }
+    if header.has_filehdr {
+        out.push('f')?;
+    }
+    if header.has_phdrs {
+        out.push('p')?;
+    }
+    out.push(';')
+}
+
+fn push_format(out: &mut String, format: &OutputFormat) -> Result<(), AllocError> {
+    push_text(out, &format.default)?;
+    if let Some(big) = &format.big {
+        push_text(out, big)?;
+    }
+    if let Some(little) = &format.little {
+        push_text(out, little)?;
+    }
+    Ok(())
+}
+
+fn push_regions(
+    alloc: Global,
+    out: &mut String,
+    regions: &Items<MemoryRegion>,
+) -> Result<(), AllocError> {
+    for region in regions.as_slice() {
+        push_region(alloc, out, region)?;
+    }
+    Ok(())
+}
+
+fn push_headers(alloc: Global, out: &mut String, headers: &Items<Phdr>) -> Result<(), AllocError> {
+    for header in headers.as_slice() {
+        push_header(alloc, out, header)?;
+    }
+    Ok(())
+}
+
+// What holds no other commands, by the kind of command and what is in it.
+fn push_leaf(alloc: Global, out: &mut String, command: &Command) -> Result<(), AllocError> {
     match command {
+        Command::Arg(name) => push_text(out, name),
+        Command::Group(_) => out.push('g'),
+        Command::AsNeeded(_) => out.push('n'),
+        Command::Ignored => out.push('i'),
         Command::Sections(sections) => push_sections(alloc, out, sections),
+        Command::Entry(name) => {
+            out.push('@')?;
+            push_text(out, name)
+        }
+        Command::Version(content) => {
+            out.push('v')?;
+            push_text(out, content)
+        }
         Command::SymbolDefinition { name, value } => {
             push_name(out, name)?;
             push_value(alloc, out, value)
@@ -107,7 +194,22 @@ fn push_command(alloc: Global, out: &mut String, command: &Command) -> Result<()
         Command::SetLocation(location) => push_value(alloc, out, &location.address),
         Command::Provide(provide) => push_provide(alloc, out, provide),
         Command::Assert(assert) => push_assert(alloc, out, assert),
+        Command::Memory(regions) => push_regions(alloc, out, regions),
+        Command::Phdrs(headers) => push_headers(alloc, out, headers),
+        Command::OutputFormat(format) => push_format(out, format),
     }
+}
+
+fn push_command(alloc: Global, out: &mut String, command: &Command) -> Result<(), AllocError> {
+    push_leaf(alloc, out, command)?;
+    if let Command::Group(commands) | Command::AsNeeded(commands) = command {
+        out.push('[')?;
+        for inner in commands.as_slice() {
+            push_command(alloc, out, inner)?;
+        }
+        out.push(']')?;
+    }
+    Ok(())
 }
 
 // The whole tree as a short text, or the fault.
@@ -123,6 +225,7 @@ fn outline(alloc: Global, text: &[u8]) -> Result<String, AllocError> {
         Err(Fault::Syntax { position }) => format!(in alloc; "syntax {position}"),
         Err(Fault::UnclosedComment { position }) => format!(in alloc; "unclosed {position}"),
         Err(Fault::UnsupportedNestedSort { position }) => format!(in alloc; "nested {position}"),
+        Err(Fault::TooDeep { position }) => format!(in alloc; "deep {position}"),
         Err(_) => String::from_str(alloc, "other"),
     }
 }
@@ -156,30 +259,35 @@ fn expect(
 
 #[test]
 fn scripts(rt: HostRuntime) -> Result<(), Fail> {
-    let cases: [(&str, &[u8], &str); 10] = [
+    let cases: [(&str, &[u8], &str); 14] = [
         ("no command", b" # a line\n/*/\t\r\n", ""),
+        ("a comment alone", b"/*/", ""),
         ("sections twice", b"SECTIONS{}SECTIONS { }", "{}{}"),
         ("a quoted word", b"\"SECTIONS\" { }", "{}"),
         ("a word alone", b"SECTIONS", "syntax 8"),
+        ("a comment in its token", b"SECTIONS/**/{ }", "syntax 12"),
         ("a line without a newline", b"# no newline", "syntax 1"),
         ("an open comment", b"SECTIONS { } /* open", "unclosed 13"),
+        ("the first open comment", b"/* a /* b", "unclosed 0"),
         ("a semicolon too many", b"x = 1;;", "syntax 6"),
         ("no value", b"x =", "syntax 3"),
-        ("a word that is not built", b"GROUP = 5", "syntax 6"),
-        ("a name alone", b"a b", "syntax 2"),
+        ("an open quote", b"x = \"", "syntax 4"),
+        ("an argument and a semicolon", b"a ;", "syntax 2"),
+        ("arguments", b"a \"b c\" -ld", "a;b c;-ld;"),
     ];
     expect(&rt, rt.alloc(), b"", b"", &cases)
 }
 
 #[test]
 fn commands(rt: HostRuntime) -> Result<(), Fail> {
-    let cases: [(&str, &[u8], &str); 8] = [
+    let cases: [(&str, &[u8], &str); 10] = [
         ("no semicolons", b"x = 1 . = 2", "x=Number(1);=Number(2);"),
         (
             "semicolons",
             b"x = 1; \".\" = 2 ;",
             "x=Number(1);=Number(2);",
         ),
+        ("a comment after a value", b"x = 1 /* c */;", "syntax 7"),
         ("a provide", b"PROVIDE_HIDDEN ( x = 1 )", "-x=Number(1);"),
         ("an operator in it", b"PROVIDE(x += 1);", "syntax 10"),
         ("an equal in its token", b"PROVIDE(x=1)", "syntax 11"),
@@ -190,6 +298,7 @@ fn commands(rt: HostRuntime) -> Result<(), Fail> {
         ),
         ("no message", b"ASSERT(1)", "syntax 8"),
         ("a comment in open quotes", b"ASSERT(1, \"/*", "syntax 13"),
+        ("a comment in a value", b"x = 1 + /* c */ 2", "syntax 8"),
     ];
     expect(&rt, rt.alloc(), b"", b"", &cases)
 }
@@ -212,8 +321,121 @@ fn changes(rt: HostRuntime) -> Result<(), Fail> {
 }
 
 #[test]
+fn nests(rt: HostRuntime) -> Result<(), Fail> {
+    let cases: [(&str, &[u8], &str); 11] = [
+        ("an empty group", b"GROUP ( )", "g[]"),
+        ("inputs", b"INPUT(a \"b c\"/* d */-le)", "g[a;b c;-le;]"),
+        ("as needed", b"GROUP(a AS_NEEDED(b))", "g[a;n[b;]]"),
+        (
+            "all commands",
+            b"GROUP(x = 1; ENTRY(a) SECTIONS { })",
+            "g[x=Number(1);@a;{}]",
+        ),
+        ("what is ignored", b"OUTPUT_ARCH(i386:x86-64) a", "ia;"),
+        ("brackets in it", b"OUTPUT_ARCH(GROUP())", "i"),
+        ("a quoted word", b"\"GROUP\"(a)", "g[a;]"),
+        ("an assignment", b"GROUP = 5", "syntax 6"),
+        ("no bracket that closes", b"GROUP ( a", "syntax 9"),
+        ("a comma", b"GROUP(a, b)", "syntax 7"),
+        ("a comment before the bracket", b"GROUP /* c */ (a)", "g[a;]"),
+    ];
+    expect(&rt, rt.alloc(), b"", b"", &cases)
+}
+
+#[test]
+fn names_in_brackets(rt: HostRuntime) -> Result<(), Fail> {
+    let cases: [(&str, &[u8], &str); 10] = [
+        ("an entry", b"ENTRY( _start /* c */ )", "@_start;"),
+        ("no entry", b"ENTRY()", "syntax 6"),
+        ("two entries", b"ENTRY(a b)", "syntax 8"),
+        ("no brackets", b"ENTRY a", "syntax 6"),
+        ("one format", b"OUTPUT_FORMAT(elf64-x86-64)", "elf64-x86-64;"),
+        (
+            "three formats",
+            b"OUTPUT_FORMAT ( \"a\" , b, /* c */ c )",
+            "a;b;c;",
+        ),
+        ("two formats", b"OUTPUT_FORMAT(a, b)", "syntax 18"),
+        ("four formats", b"OUTPUT_FORMAT(a,b,c,d)", "syntax 19"),
+        ("no format", b"OUTPUT_FORMAT()", "syntax 14"),
+        ("no comma", b"OUTPUT_FORMAT(a b)", "syntax 16"),
+    ];
+    expect(&rt, rt.alloc(), b"", b"", &cases)
+}
+
+#[test]
+fn versions(rt: HostRuntime) -> Result<(), Fail> {
+    let cases: [(&str, &[u8], &str); 7] = [
+        (
+            "a version in it",
+            b"VERSION { A { global: f; }; }",
+            "vA { global: f; }; ;",
+        ),
+        ("nothing in it", b"VERSION{ /* c */ }a", "v;a;"),
+        ("a semicolon", b"VERSION { a } /* c */ ; b", "va ;b;"),
+        ("quotes do not count", b"VERSION { \"}\" }", "syntax 15"),
+        ("comments in it stay", b"VERSION { a /* } b", "va /* ;b;"),
+        ("no brace that closes", b"VERSION { { }", "syntax 13"),
+        ("no brace that opens", b"VERSION a", "syntax 8"),
+    ];
+    expect(&rt, rt.alloc(), b"", b"", &cases)
+}
+
+#[test]
+fn regions(rt: HostRuntime) -> Result<(), Fail> {
+    let cases: [(&str, &[u8], &str); 10] = [
+        (
+            "two regions",
+            b"a : ORIGIN = 1, LENGTH = 2 b : org=3 # c\n , len=4",
+            "a=Number(1);=Number(2);b=Number(3);=Number(4);",
+        ),
+        ("short words", b"a : o = 1 , l = 1K", "a=Number(1);=Number(1024);"),
+        ("no region", b"", ""),
+        ("a colon in a token", b"a: o = 1, l = 2", "syntax 11"),
+        ("attributes", b"a (rx) : o = 1, l = 2", "syntax 10"),
+        ("another word", b"a : orig = 1, l = 2", "syntax 13"),
+        ("no comma", b"a : o = 1 l = 2", "syntax 18"),
+        ("no length", b"a : o = 1", "syntax 17"),
+        ("a semicolon", b"a : o = 1, l = 2;", "syntax 24"),
+        ("a comment after it", b"a : o = 1, l = 2 /* c */", "syntax 26"),
+    ];
+    expect(&rt, rt.alloc(), b"MEMORY{ ", b"}", &cases)
+}
+
+#[test]
+fn headers(rt: HostRuntime) -> Result<(), Fail> {
+    let cases: [(&str, &[u8], &str); 12] = [
+        (
+            "two headers",
+            b"a PT_LOAD FILEHDR PHDRS/* c */; b 5 # d\n;",
+            "a=Number(1);fp;b=Number(5);;",
+        ),
+        (
+            "flags",
+            b"a PT_GNU_STACK FLAGS /* c */ ( 6 )",
+            "a=Number(1685382481);=Number(6);;",
+        ),
+        (
+            "the last flags count",
+            b"a PT_PHDR FLAGS(1) PHDRS FLAGS(2)",
+            "a=Number(6);=Number(2);p;",
+        ),
+        ("words without gaps", b"a 1FILEHDRPHDRS", "syntax 9"),
+        ("words in one token", b"a (1)FILEHDRPHDRS", "a=Number(1);fp;"),
+        ("no semicolon", b"a PT_TLS b 2", "a=Number(7);;b=Number(2);;"),
+        ("a symbol as type", b"a PT", "a=Symbol(Name { bytes: [80, 84] });;"),
+        ("no such type", b"a PT_OTHER;", "syntax 17"),
+        ("a type in quotes", b"a \"PT_LOAD\";", "syntax 9"),
+        ("no type", b"a ;", "syntax 9"),
+        ("a comment in flags", b"a 1 FLAGS(/* c */1)", "syntax 17"),
+        ("an address", b"a 1 AT(0)", "a=Number(1);;AT=Number(0);;"),
+    ];
+    expect(&rt, rt.alloc(), b"PHDRS{ ", b"}", &cases)
+}
+
+#[test]
 fn statements(rt: HostRuntime) -> Result<(), Fail> {
-    let cases: [(&str, &[u8], &str); 13] = [
+    let cases: [(&str, &[u8], &str); 12] = [
         ("assignments", b". = 1; x = 2;", "{=Number(1);x=Number(2);}"),
         ("no semicolon", b". = 1 ", "syntax 15"),
         ("a comment before it", b". = 1 /* c */;", "syntax 16"),
@@ -224,8 +446,7 @@ fn statements(rt: HostRuntime) -> Result<(), Fail> {
         ("an assert", b"ASSERT (1, \"a b\")", "{16?a b=Number(1);}"),
         ("a semicolon after it", b"ASSERT(1, m);", "syntax 21"),
         ("a word is no name", b"PROVIDE_HIDDEN : { }", "syntax 24"),
-        ("a region", b".a : { } > r ", "syntax 18"),
-        ("a section without a name", b"\"\" : { }", "syntax 12"),
+        ("a section without a name", b"\"\" : { }", "{:;}"),
         ("a colon in a token", b".a: { }", "syntax 13"),
     ];
     expect(&rt, rt.alloc(), b"SECTIONS{", b"}", &cases)
@@ -233,7 +454,7 @@ fn statements(rt: HostRuntime) -> Result<(), Fail> {
 
 #[test]
 fn matchers(rt: HostRuntime) -> Result<(), Fail> {
-    let cases: [(&str, &[u8], &str); 12] = [
+    let cases: [(&str, &[u8], &str); 11] = [
         ("every file", b"*(.a .b);\"*\"()", "{.a:(.a .b )();}"),
         (
             "files",
@@ -245,8 +466,7 @@ fn matchers(rt: HostRuntime) -> Result<(), Fail> {
         ("a quoted word", b"\"KEEP\"(.a)", "{.a:<KEEP>(.a );}"),
         ("a gap in KEEP", b"KEEP( *(.a))", "syntax 19"),
         ("KEEP without patterns", b"KEEP(*)", "syntax 20"),
-        ("what is not built", b"PROVIDE(x = 1);", "syntax 21"),
-        ("no patterns", b"CONSTRUCTORS", "syntax 26"),
+        ("no patterns", b"f.o", "syntax 17"),
         ("a comment in a name", b"*(.a/* (b)", "{.a:(.a/* (b );}"),
         ("form feed", b"*(.a\x0c)", "syntax 18"),
         ("sorted", b"*(SORT(.t*) .u)", "{.a:(^.t* .u );}"),
