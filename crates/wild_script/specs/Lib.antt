@@ -5,6 +5,7 @@ pub mod Nest
 pub mod Outermost
 pub mod OutputFormat
 pub mod Phdrs
+pub mod Sections
 pub mod Tree
 pub mod Version
 pub mod Versions

@@ -11,9 +11,10 @@ use Rattle.wild_script.specs.declared.words.Nest as words
 use Rattle.wild_script.specs.declared.words.Nest.TheVariants as n
 use Rattle.wild_script.specs.Entry.{entry_command}
 use Rattle.wild_script.specs.Memory.{memory_command}
-use Rattle.wild_script.specs.Outermost.{assert_command, named_command, provide_command, sections_command}
+use Rattle.wild_script.specs.Outermost.{assert_command, named_command, provide_command}
 use Rattle.wild_script.specs.OutputFormat.{format_command}
 use Rattle.wild_script.specs.Phdrs.{phdrs_command}
+use Rattle.wild_script.specs.Sections.{sections_command}
 use Rattle.wild_script.specs.Version.{version_command}
 use Rattle.wild_script_tree.specs.declared.tree.Command.{Command}
 use Rattle.wild_script_tree.specs.declared.tree.Command.TheVariants as variant

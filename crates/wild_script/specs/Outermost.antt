@@ -1,30 +1,14 @@
 -- Outermost commands that hold no others.
 use Rattle.std.specs.Prelude.{ℕ, Bool, List}
 use Rattle.wild_reading.specs.Reader.{Reader, ◌>>=◌, ◌>>◌, Give, If, Choice}
-use Rattle.wild_reading.specs.Lex.{symbol, optional_symbol}
+use Rattle.wild_reading.specs.Lex.{optional_symbol}
 use Rattle.wild_expression_words.specs.Words.{is_counter}
 use Rattle.wild_expression_words.specs.Dialect.{Dialect}
 use Rattle.wild_expression.specs.Parts.{assert_body}
 use Rattle.wild_statements.specs.Assignment.{begins_assignment, open_value}
 use Rattle.wild_statements.specs.Provide.{provide_body}
-use Rattle.wild_section_statements.specs.Statement.{section_statements}
-use Rattle.wild_script_tree.specs.declared.tree.Sections as tree
 use Rattle.wild_script_tree.specs.declared.tree.Command.{Command}
 use Rattle.wild_script_tree.specs.declared.tree.Command.TheVariants as variant
-
--- statements in braces
-unfoldable pub sections : Dialect → Reader tree.Sections
-sections dialect = do
-  symbol 123
-  statements ← section_statements dialect
-  symbol 125
-  Give (record { commands = statements })
-
--- after SECTIONS
-unfoldable pub sections_command : Dialect → Reader Command
-sections_command dialect = do
-  read ← sections dialect
-  Give (variant.Sections read)
 
 -- the brackets of an ASSERT; a semicolon or none
 unfoldable pub assert_command : Dialect → Reader Command

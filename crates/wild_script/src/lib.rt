@@ -11,6 +11,7 @@ mod outermost;
 mod parse;
 mod phdrs;
 mod script;
+mod sections;
 mod tree;
 mod version;
 mod versions;
@@ -28,3 +29,5 @@ pub use wild_script_tree::{
 
 #[cfg(test)]
 mod tests;
+#[cfg(test)]
+mod walk_tests;

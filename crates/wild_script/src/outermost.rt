@@ -9,28 +9,8 @@ use wild_expression::assert_body;
 use wild_expression_words::is_counter;
 use wild_names::Name;
 use wild_reading::{Cursor, Stop};
-use wild_script_tree::{Command, Location, Sections};
-use wild_section_statements::section_statements;
+use wild_script_tree::{Command, Location};
 use wild_statements::{begins_assignment, open_value, provide_body};
-
-#[tactic(auto, using(wild_reading::proofs::Readers::reading), unfolding(crate::specs::Outermost::sections))]
-fn sections(cursor: &mut Cursor<'_>, alloc: Global) -> Result<Sections, Stop>
-    ensures { Answers (spec.sections first_grammar) cursor.old cursor.new result }
-{
-    cursor.symbol(b'{')?;
-    let commands = section_statements(cursor, alloc)?;
-    cursor.symbol(b'}')?;
-    Ok(Sections { commands })
-}
-
-/// Reads what is after SECTIONS.
-#[tactic(auto, using(wild_reading::proofs::Readers::reading), unfolding(crate::specs::Outermost::sections_command))]
-pub fn sections_command(cursor: &mut Cursor<'_>, alloc: Global) -> Result<Command, Stop>
-    ensures { Answers (spec.sections_command first_grammar) cursor.old cursor.new result }
-{
-    let sections = sections(cursor, alloc)?;
-    Ok(Command::Sections(sections))
-}
 
 /// Reads what is after ASSERT.
 #[tactic(auto, using(wild_reading::proofs::Readers::reading), unfolding(crate::specs::Outermost::assert_command))]

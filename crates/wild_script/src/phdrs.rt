@@ -48,11 +48,7 @@ fn type_number(content: &[u8]) -> Option<u64>
 }
 
 #[tactic(auto, using(wild_reading::proofs::Readers::reading))]
-fn number(
-    cursor: &Cursor<'_>,
-    alloc: Global,
-    found: Option<u64>,
-) -> Result<Boxed<Expression>, Stop>
+fn number(cursor: &Cursor<'_>, alloc: Global, found: Option<u64>) -> Result<Boxed<Expression>, Stop>
     ensures { Answers (spec.number_of found) cursor.now cursor.now result }
 {
     match found {
@@ -126,7 +122,9 @@ fn phdrs_clause(cursor: &mut Cursor<'_>, mut header: Phdr) -> Result<Phdr, Stop>
 fn ends_clauses(cursor: &Cursor<'_>) -> bool
     ensures { result ≡ spec.ends_clauses cursor.now.text.bytes cursor.now.at }
 {
-    !(cursor.begins_with(b"FLAGS") || cursor.begins_with(b"FILEHDR") || cursor.begins_with(b"PHDRS"))
+    !(cursor.begins_with(b"FLAGS")
+        || cursor.begins_with(b"FILEHDR")
+        || cursor.begins_with(b"PHDRS"))
 }
 
 #[tactic(auto, using(wild_reading::proofs::Readers::choosing), unfolding(crate::specs::Phdrs::clause))]

@@ -337,9 +337,37 @@ fn nests(rt: HostRuntime) -> Result<(), Fail> {
         ("an assignment", b"GROUP = 5", "syntax 6"),
         ("no bracket that closes", b"GROUP ( a", "syntax 9"),
         ("a comma", b"GROUP(a, b)", "syntax 7"),
-        ("a comment before the bracket", b"GROUP /* c */ (a)", "g[a;]"),
+        (
+            "a comment before the bracket",
+            b"GROUP /* c */ (a)",
+            "g[a;]",
+        ),
     ];
     expect(&rt, rt.alloc(), b"", b"", &cases)
+}
+
+// So many GROUPs, one in the brackets of another.
+fn groups(alloc: Global, count: usize) -> Result<Vec<u8>, AllocError> {
+    let mut script = Vec::new(alloc);
+    for _ in 0..count {
+        script.extend_from_slice(b"GROUP(")?;
+    }
+    for _ in 0..count {
+        script.push(b')')?;
+    }
+    Ok(script)
+}
+
+#[test]
+fn depths(rt: HostRuntime) -> Result<(), Fail> {
+    let deepest = groups(rt.alloc(), 256)?;
+    assert!(rt; LinkerScript::parse(rt.alloc(), deepest.as_slice()).is_ok());
+    let deeper = groups(rt.alloc(), 257)?;
+    assert_eq!(rt;
+        outline(rt.alloc(), deeper.as_slice())?.as_str(),
+        "deep 1542"
+    );
+    Ok(())
 }
 
 #[test]
@@ -349,7 +377,11 @@ fn names_in_brackets(rt: HostRuntime) -> Result<(), Fail> {
         ("no entry", b"ENTRY()", "syntax 6"),
         ("two entries", b"ENTRY(a b)", "syntax 8"),
         ("no brackets", b"ENTRY a", "syntax 6"),
-        ("one format", b"OUTPUT_FORMAT(elf64-x86-64)", "elf64-x86-64;"),
+        (
+            "one format",
+            b"OUTPUT_FORMAT(elf64-x86-64)",
+            "elf64-x86-64;",
+        ),
         (
             "three formats",
             b"OUTPUT_FORMAT ( \"a\" , b, /* c */ c )",
@@ -389,7 +421,11 @@ fn regions(rt: HostRuntime) -> Result<(), Fail> {
             b"a : ORIGIN = 1, LENGTH = 2 b : org=3 # c\n , len=4",
             "a=Number(1);=Number(2);b=Number(3);=Number(4);",
         ),
-        ("short words", b"a : o = 1 , l = 1K", "a=Number(1);=Number(1024);"),
+        (
+            "short words",
+            b"a : o = 1 , l = 1K",
+            "a=Number(1);=Number(1024);",
+        ),
         ("no region", b"", ""),
         ("a colon in a token", b"a: o = 1, l = 2", "syntax 11"),
         ("attributes", b"a (rx) : o = 1, l = 2", "syntax 10"),
@@ -397,7 +433,11 @@ fn regions(rt: HostRuntime) -> Result<(), Fail> {
         ("no comma", b"a : o = 1 l = 2", "syntax 18"),
         ("no length", b"a : o = 1", "syntax 17"),
         ("a semicolon", b"a : o = 1, l = 2;", "syntax 24"),
-        ("a comment after it", b"a : o = 1, l = 2 /* c */", "syntax 26"),
+        (
+            "a comment after it",
+            b"a : o = 1, l = 2 /* c */",
+            "syntax 26",
+        ),
     ];
     expect(&rt, rt.alloc(), b"MEMORY{ ", b"}", &cases)
 }
@@ -421,9 +461,21 @@ fn headers(rt: HostRuntime) -> Result<(), Fail> {
             "a=Number(6);=Number(2);p;",
         ),
         ("words without gaps", b"a 1FILEHDRPHDRS", "syntax 9"),
-        ("words in one token", b"a (1)FILEHDRPHDRS", "a=Number(1);fp;"),
-        ("no semicolon", b"a PT_TLS b 2", "a=Number(7);;b=Number(2);;"),
-        ("a symbol as type", b"a PT", "a=Symbol(Name { bytes: [80, 84] });;"),
+        (
+            "words in one token",
+            b"a (1)FILEHDRPHDRS",
+            "a=Number(1);fp;",
+        ),
+        (
+            "no semicolon",
+            b"a PT_TLS b 2",
+            "a=Number(7);;b=Number(2);;",
+        ),
+        (
+            "a symbol as type",
+            b"a PT",
+            "a=Symbol(Name { bytes: [80, 84] });;",
+        ),
         ("no such type", b"a PT_OTHER;", "syntax 17"),
         ("a type in quotes", b"a \"PT_LOAD\";", "syntax 9"),
         ("no type", b"a ;", "syntax 9"),

@@ -8,10 +8,10 @@ braces-init c = open_start _ _ c.requires
 
 pub braces-preserved : goal.braces-preserved
 braces-preserved c = elim c.if-begins.branch [
-    then-begins+else-depth-eq0 w ↦ rw w.depth-is (open_less c.braces.invariant (search rules) (search rules) (search rules))
+  | then-begins+else-depth-eq0 w ↦ rw w.depth-is (open_less c.braces.invariant (search rules) (search rules) (search rules))
   | else-begins+then-begins-2 w ↦ rw w.depth-is (open_more c.braces.invariant (search rules) (search rules) (search rules))
   | else-begins+else-begins-2 w ↦ rw w.depth-is (open_same c.braces.invariant (search rules) (search rules) (search rules))
-  ]
+]
 
 pub returns-clause-value : goal.returns-clause-value
 returns-clause-value c = sym (open_ends c.braces.invariant (search rules))
