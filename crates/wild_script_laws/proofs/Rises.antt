@@ -8,7 +8,8 @@ use Rattle.wild_reading.specs.Lex.{byte, gap, token, word, name, symbol, optiona
 use Rattle.wild_expression_words.specs.declared.operators.Level.{Level}
 use Rattle.wild_expression_words.specs.declared.operators.Level.TheVariants.{Ternary}
 use Rattle.wild_expression_words.specs.Dialect.{first_grammar}
-use Rattle.wild_expression.specs.Grammar.{Measured, value, value_by, inner_value, inner_by}
+use Rattle.wild_expression.specs.declared.measured.Measured.{Measured}
+use Rattle.wild_expression.specs.Grammar.{value, value_by, inner_value, inner_by}
 use Rattle.wild_expression.specs.Parts.{expression, assert_body}
 use Rattle.wild_expression.proofs.Free.{IsFree, token_free, gap_free}
 use Rattle.wild_expression.proofs.Depths.{into, back, value_inner}

@@ -1,7 +1,7 @@
 -- Statements of SECTIONS rise.
 use Rattle.std.specs.Prelude.{ℕ, Bool, List, Option, Some, None}
 use Rattle.wild_reading.specs.Reader.{check}
-use Rattle.wild_reading.specs.Lex.{Word, sort_bracket}
+use Rattle.wild_reading.specs.Lex.{Word, run, sort_bracket}
 use Rattle.wild_expression_words.specs.Dialect.{first_grammar}
 use Rattle.wild_patterns.specs.Pattern as p
 use Rattle.wild_patterns.specs.Matcher.{file_matcher, keep_matcher}
@@ -46,7 +46,7 @@ closed_rises target = search (lexing, assigned_rises) depth 20
 -- ---- contents
 
 list_rises : Rises p.pattern_list
-unfolding p.pattern_list p.patterns p.pattern p.word_pattern p.sort_pattern p.sort_open p.no_sort p.bare_pattern p.pattern_name sort_bracket
+unfolding p.pattern_list p.patterns p.pattern p.word_pattern p.sort_pattern p.sort_open p.no_sort p.bare_pattern p.pattern_name run sort_bracket
 list_rises = search lexing depth 40
 
 keep_rises : Rises keep_matcher
