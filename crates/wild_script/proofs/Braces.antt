@@ -1,5 +1,5 @@
 -- Which brace closes, from position to position.
-use Rattle.std.proofs.Common.{◌≡◌, get_or, ℕ, suc, ◌+◌, ◌-◌, ◌≤◌, ◌<◌, ◌==◌, true, false, length, drop, take, refl, sym, ◌∙◌, ap, arith, Some, None}
+use Rattle.std.proofs.Common.{◌≡◌, get_or, ℕ, suc, ◌+◌, ◌-◌, ◌≤◌, ◌<◌, ◌==◌, Bool, true, false, length, drop, take, refl, sym, ◌∙◌, ap, arith, Some, None, if◌then◌else◌}
 use Rattle.std.specs.Prelude.{Option, slice_get, count_by, ◌&&◌}
 use Rattle.std.specs.List.{find, range_with_len}
 use Rattle.std.proofs.lemmas.List.{get_or-drop, length-drop}
@@ -9,6 +9,7 @@ use Rattle.std.proofs.lemmas.Bool.{false≢true, eqb-true, eq-eqb, ne_eqb}
 use Rattle.std.proofs.Math.Bool.{and-false}
 use Rattle.wild_reading.specs.Position.{Bytes}
 use Rattle.wild_reading.specs.Bytes.{begins, is_byte}
+use Rattle.wild_reading.specs.Lex.{between}
 use Rattle.wild_script.specs.Version.{count_of, closes_at, closing_brace}
 
 -- ---- the first that closes, from a position on

@@ -1,5 +1,5 @@
 -- The first VERSION is a command, or among those after it.
-use Rattle.std.proofs.Common.{◌≡◌, ◌∙◌, ℕ, ◌+◌, ◌<◌, ◌≤◌, true, false, List, drop, length, get_or, refl, sym, ap, None, Some, Bor}
+use Rattle.std.proofs.Common.{◌≡◌, ◌∙◌, ℕ, ◌+◌, ◌<◌, ◌≤◌, Bool, true, false, List, ◌∷◌, drop, length, get_or, refl, sym, ap, None, Some, Bor}
 use Rattle.std.specs.Prelude.{Option}
 use Rattle.std.specs.Option.{option_or, option_copied, is_some}
 use Rattle.std.proofs.lemmas.List.{drop_more}

@@ -1,3 +1,4 @@
+use Rattle.std.proofs.Common.{sym, subst, IsUtf8, List, ℕ}
 use Rattle.wild_script.proofs.Shown.{shows_strange, shows_last, shows_one}
 use Rattle.wild_script.proofs.inputs.show_argument.Goals as goal
 
