@@ -1,4 +1,5 @@
 pub mod Entry
+pub mod Equality
 pub mod Inputs
 pub mod Memory
 pub mod Nest

@@ -86,13 +86,55 @@ fn push_contents(
     }
 }
 
+// After a letter, where there is one.
+fn push_clause(
+    alloc: Global,
+    out: &mut String,
+    letter: char,
+    value: &Option<Expression>,
+) -> Result<(), AllocError> {
+    let Some(value) = value else {
+        return Ok(());
+    };
+    out.push(letter)?;
+    push_value(alloc, out, value)
+}
+
+// The attribute, the start, the load address and the alignment.
+fn push_head(alloc: Global, out: &mut String, section: &Section) -> Result<(), AllocError> {
+    if let Some(attributes) = &section.attributes {
+        out.push_str(format!(in alloc; "({attributes:?})")?.as_str())?;
+    }
+    push_clause(alloc, out, 's', &section.start_address_expression)?;
+    push_clause(alloc, out, 'l', &section.at_address)?;
+    push_clause(alloc, out, 'a', &section.alignment)
+}
+
+// The headers, the region and the fill.
+fn push_tail(alloc: Global, out: &mut String, section: &Section) -> Result<(), AllocError> {
+    for header in section.phdrs.as_slice() {
+        out.push(':')?;
+        push_text(out, header)?;
+    }
+    if let Some(region) = &section.region {
+        out.push('>')?;
+        push_text(out, region)?;
+    }
+    match &section.fill {
+        Some(fill) => push_value(alloc, out, &fill.value),
+        None => Ok(()),
+    }
+}
+
 fn push_section(alloc: Global, out: &mut String, section: &Section) -> Result<(), AllocError> {
     push_name(out, &section.output_section_name)?;
+    push_head(alloc, out, section)?;
     out.push(':')?;
     for command in section.commands.as_slice() {
         push_contents(alloc, out, command)?;
     }
-    out.push(';')
+    out.push(';')?;
+    push_tail(alloc, out, section)
 }
 
 fn push_statement(
@@ -505,6 +547,100 @@ fn statements(rt: HostRuntime) -> Result<(), Fail> {
 }
 
 #[test]
+fn clauses(rt: HostRuntime) -> Result<(), Fail> {
+    let cases: [(&str, &[u8], &str); 16] = [
+        ("a start", b"7 :", "{.as=Number(7);:;}"),
+        ("an attribute", b"(NOLOAD) :", "{.a(Noload):;}"),
+        ("both", b"7 ( INFO ) :", "{.a(Info)s=Number(7);:;}"),
+        (
+            "the last counts",
+            b"1 (COPY) 2 (DSECT) :",
+            "{.a(Dsect)s=Number(2);:;}",
+        ),
+        ("no attribute", b"(8) :", "{.as=Number(8);:;}"),
+        ("on after an attribute", b"(INFO) + 1 :", "syntax 19"),
+        ("an open attribute", b"(NOLOAD :", "syntax 20"),
+        ("a load", b": AT(1)", "{.al=Number(1);:;}"),
+        ("an alignment", b": ALIGN(8)", "{.aa=Number(8);:;}"),
+        (
+            "two loads",
+            b": AT(1) ALIGN(8) AT(2)",
+            "{.al=Number(2);a=Number(8);:;}",
+        ),
+        (
+            "a gap in a clause",
+            b": AT /* x */ ( 1 ) /* y */",
+            "{.al=Number(1);:;}",
+        ),
+        ("a longer word", b": ATx", "syntax 16"),
+        ("no bracket", b": ALIGN 8", "syntax 20"),
+        ("no value", b": AT()", "syntax 17"),
+        ("a clause before the colon", b"AT(1) :", "syntax 14"),
+        ("another clause", b": SUBALIGN(8)", "syntax 14"),
+    ];
+    expect(&rt, rt.alloc(), b"SECTIONS{.a ", b" {}}", &cases)
+}
+
+#[test]
+fn tails(rt: HostRuntime) -> Result<(), Fail> {
+    let cases: [(&str, &[u8], &str); 13] = [
+        ("a comma", b",", "{.a:;}"),
+        ("two commas", b",,", "syntax 16"),
+        ("a region", b"> R", "{.a:;>R;}"),
+        ("headers", b" :t :\"\"", "{.a:;:t;:;}"),
+        ("a fill", b"=0x90", "{.a:;=Number(144);}"),
+        ("all of them", b":h >R =1 ,", "{.a:;:h;>R;=Number(1);}"),
+        ("regions", b">R >S", "{.a:;>S;}"),
+        ("fills", b"=1 :h =2", "{.a:;:h;=Number(2);}"),
+        (
+            "a fill goes on",
+            b"=0 >1",
+            "{.a:;=GreaterThan(Boxed { inner: Number(0) }, Boxed { inner: Number(1) });}",
+        ),
+        ("no region", b">", "syntax 16"),
+        ("no header", b": ", "syntax 17"),
+        ("no fill", b"=", "syntax 16"),
+        ("a fill of two", b"==1", "syntax 16"),
+    ];
+    expect(&rt, rt.alloc(), b"SECTIONS{.a :{}", b"}", &cases)
+}
+
+#[test]
+fn contents(rt: HostRuntime) -> Result<(), Fail> {
+    let cases: [(&str, &[u8], &str); 12] = [
+        ("a symbol", b"x = 1;", "{.a:x=Number(1);;}"),
+        (
+            "the location",
+            b". += 2;",
+            "{.a:=Add(Boxed { inner: LocationCounter }, Boxed { inner: Number(2) });;}",
+        ),
+        ("no semicolon", b"x = 1 ", "{.a:x=Number(1);;}"),
+        ("a comment after a value", b"x = 1 /* c */;", "syntax 21"),
+        (
+            "a provide",
+            b"PROVIDE_HIDDEN(x = 1);",
+            "{.a:-x=Number(1);;}",
+        ),
+        ("a quoted provide", b"\"PROVIDE\"(x)", "{.a:<PROVIDE>(x );}"),
+        ("an assert", b"ASSERT(1, m)", "{.a:20?m=Number(1);;}"),
+        (
+            "a semicolon after it",
+            b"ASSERT(1, m);",
+            "{.a:20?m=Number(1);;}",
+        ),
+        ("constructors", b"CONSTRUCTORS", "{.a:*;}"),
+        ("a semicolon after that", b"CONSTRUCTORS;", "syntax 26"),
+        (
+            "a word and an operator",
+            b"KEEP = 1;",
+            "{.a:KEEP=Number(1);;}",
+        ),
+        ("an empty name", b"\"\" = 1;", "{.a:=Number(1);;}"),
+    ];
+    expect(&rt, rt.alloc(), b"SECTIONS{.a :{", b"}}", &cases)
+}
+
+#[test]
 fn matchers(rt: HostRuntime) -> Result<(), Fail> {
     let cases: [(&str, &[u8], &str); 11] = [
         ("every file", b"*(.a .b);\"*\"()", "{.a:(.a .b )();}"),
@@ -549,6 +685,26 @@ fn sort_words(rt: HostRuntime) -> Result<(), Fail> {
         ("an open comment", b"*(SORT(/* open", "unclosed 21"),
     ];
     expect(&rt, rt.alloc(), b"SECTIONS{.a :{", b"}}", &cases)
+}
+
+#[test]
+fn copies(rt: HostRuntime) -> Result<(), Fail> {
+    let alloc = rt.alloc();
+    let texts: [&[u8]; 4] = [
+        b"SECTIONS { .f : ALIGN(8) { s = .; KEEP(c.o(.r)); . = ALIGN(32); } }",
+        b"SECTIONS { .f : ALIGN(8) { s = .; KEEP(c.o(.r)); . = ALIGN(16); } }",
+        b"GROUP(a AS_NEEDED(b))",
+        b"GROUP(a AS_NEEDED(b) )VERSION { }",
+    ];
+    for (i, text) in texts.iter().enumerate() {
+        let original = LinkerScript::parse(alloc, text)?;
+        let copy = original.copy(alloc)?;
+        for (j, other) in texts.iter().enumerate() {
+            let other = LinkerScript::parse(alloc, other)?;
+            assert_eq!(rt; copy == other, i == j, "{i} {j}");
+        }
+    }
+    Ok(())
 }
 
 #[test]
