@@ -25,7 +25,7 @@ module _ (scope : Scope) (known : Known) where
   -- where a place is one, it holds
   unfoldable pub place_holds : ℕ → Place → Result (Unit {0}) Fault
   place_holds i (Wait w task) = task_holds i w task
-  place_holds i (SetLocation e) = Ok tt
+  place_holds i (SetLocation s e) = Ok tt
   place_holds i (Open s x) = Ok tt
   place_holds i (Collect q m) = Ok tt
   place_holds i (Rows q) = Ok tt

@@ -1,5 +1,5 @@
 -- What a plan lists.
-use Rattle.std.specs.Prelude.{ℕ, ◌+◌, ◌-◌, true, List, [], ◌∷◌, ◌++◌, Option, Some, None}
+use Rattle.std.specs.Prelude.{ℕ, ◌+◌, ◌-◌, not, List, [], ◌∷◌, ◌++◌, Option, Some, None}
 use Rattle.wild_script_tree.specs.declared.tree.Command.{Command}
 use Rattle.wild_plan_spec.specs.declared.chunk.Kept.{Kept}
 use Rattle.wild_plan_spec.specs.declared.row.InputRow.{InputRow}
@@ -39,10 +39,10 @@ placed_section known s f = record {
   size = number_at known (End s) - number_at known (Start s);
   alignment = f.alignment;
   flags = f.flags;
-  fill = None;
+  fill = f.fill;
   region = None;
   headers = [];
-  counted = true;
+  counted = not f.floating;
 }
 
 -- the first section of the list has the number s

@@ -9,11 +9,11 @@ use Rattle.wild_script_tree.specs.declared.tree.Section.{Section}
 use Rattle.wild_script_tree.specs.declared.tree.SectionCommand.{SectionCommand}
 use Rattle.wild_script_tree.specs.declared.tree.SectionCommand.TheVariants as inner
 use Rattle.wild_script_tree.specs.declared.tree.ContentsCommand.{ContentsCommand}
-use Rattle.wild_script_tree.specs.declared.tree.ContentsCommand.TheVariants.{Matcher as OfMatcher}
+use Rattle.wild_script_tree.specs.declared.tree.ContentsCommand.TheVariants as contents
 use Rattle.wild_script_tree.specs.declared.tree.Matcher.{Matcher}
 use Rattle.wild_plan_spec.specs.declared.chunk.Chunk.{Chunk}
 use Rattle.wild_plan_spec.specs.declared.place.Where.{Where}
-use Rattle.wild_plan_spec.specs.declared.place.Where.TheVariants.{Outermost, Between}
+use Rattle.wild_plan_spec.specs.declared.place.Where.TheVariants.{Outermost, Between, Inside}
 use Rattle.wild_plan_spec.specs.Names.{Name}
 use Rattle.wild_plan_spec.specs.Statements.{Statement, Inner, Outer, is_discard, statements_of}
 
@@ -30,8 +30,8 @@ pub data Task : Type 0 where
 
 -- a place of a script
 pub data Place : Type 0 where
-  -- the location counter becomes the value of an expression
-  SetLocation : Expression → Place
+  -- the location counter becomes the value of an expression; in the contents of this section its cursor does
+  SetLocation : Option ℕ → Expression → Place
   -- a task, which waits until all places are laid out
   Wait : Where → Task → Place
   -- the section of this number begins: one of the script, or an orphan
@@ -44,19 +44,23 @@ pub data Place : Type 0 where
   Close : ℕ → Option Chunk → Place
   -- `/DISCARD/` begins, which does nothing
   Discard : Section → Place
-  -- `/DISCARD/` ends, or a command stands here that does nothing
+  -- `/DISCARD/` ends, or what stands here does nothing
   Idle : Place
-  -- a statement or a command whose meaning is not built yet
+  -- a command whose meaning is not built yet
   Unbuilt : Place
 
 -- a statement of section s, whose chunk, if it is a matcher, has this number
 abbrev pub content_place : ℕ → ℕ → ContentsCommand → Place
-content_place s number (OfMatcher m) = Collect (Some (record { «section» = s; number = number })) m
-content_place s number c = Unbuilt
+content_place s number (contents.Matcher m) = Collect (Some (record { «section» = s; number = number })) m
+content_place s number (contents.SymbolAssignment a) = Wait (Inside s) (Assign a.name a.expr)
+content_place s number (contents.Provide d) = Wait (Inside s) (Provide d)
+content_place s number (contents.SetLocation l) = SetLocation (Some s) l.address
+content_place s number contents.Constructors = Idle
+content_place s number (contents.Assert c) = Wait (Inside s) (Check c)
 
 -- the number of the next chunk after a statement
 abbrev pub next_chunk : ℕ → ContentsCommand → ℕ
-next_chunk number (OfMatcher m) = number + 1
+next_chunk number (contents.Matcher m) = number + 1
 next_chunk number c = number
 
 -- the statements of section s, whose next chunk has this number
@@ -67,17 +71,17 @@ contents_places s number (c ∷ cs) = content_place s number c ∷ contents_plac
 -- a section without matchers has a chunk of its own for what joins it by name
 abbrev pub rest_chunk : ℕ → List ContentsCommand → Option Chunk
 rest_chunk s [] = Some (record { «section» = s; number = 0 })
-rest_chunk s (OfMatcher m ∷ cs) = None
+rest_chunk s (contents.Matcher m ∷ cs) = None
 rest_chunk s (c ∷ cs) = rest_chunk s cs
 
 -- section s begins, its statements, and it ends
 abbrev pub section_places : ℕ → Section → List Place
 section_places s x = Open s (Some x) ∷ (contents_places s 0 x.commands ++ Close s (rest_chunk s x.commands) ∷ [])
 
--- a statement of `/DISCARD/`
+-- a statement of `/DISCARD/`, where only matchers may stand
 abbrev pub discarding_place : ContentsCommand → Place
-discarding_place (OfMatcher m) = Collect None m
-discarding_place c = Unbuilt
+discarding_place (contents.Matcher m) = Collect None m
+discarding_place c = Idle
 
 -- its statements
 abbrev pub discarding_places : List ContentsCommand → List Place
@@ -91,7 +95,7 @@ discard_places x = Discard x ∷ (discarding_places x.commands ++ Idle ∷ [])
 -- a statement in SECTIONS, whose section, if it is one, has the number s
 abbrev pub inner_places : ℕ → SectionCommand → List Place
 inner_places s (inner.Section x) = if is_discard x then discard_places x else section_places s x
-inner_places s (inner.SetLocation l) = SetLocation l.address ∷ []
+inner_places s (inner.SetLocation l) = SetLocation None l.address ∷ []
 inner_places s (inner.SymbolAssignment a) = Wait Between (Assign a.name a.expr) ∷ []
 inner_places s (inner.Provide d) = Wait Between (Provide d) ∷ []
 inner_places s (inner.Assert c) = Wait Between (Check c) ∷ []

@@ -1,20 +1,22 @@
 -- What each place of a script does to what stands before it.
-use Rattle.std.specs.Prelude.{ℕ, ◌^◌, nat_lt, if◌then◌else◌, List, [], ◌∷◌, ◌++◌, Option, Some, None, Result, Ok, Err}
+use Rattle.std.specs.Prelude.{ℕ, ◌^◌, nat_lt, Bool, if◌then◌else◌, List, [], ◌∷◌, ◌++◌, Option, Some, None, Result, Ok, Err}
 use Rattle.wild_ids.specs.Alignment.{rounded_up}
 use Rattle.wild_names.specs.declared.fault.Fault.{Fault}
-use Rattle.wild_names.specs.declared.fault.Fault.TheVariants.{AlignOverflow, Overlap}
+use Rattle.wild_names.specs.declared.fault.Fault.TheVariants.{AlignOverflow, MovesBack, Overlap}
 use Rattle.wild_expression_tree.specs.declared.tree.Expression.{Expression}
 use Rattle.wild_value_spec.specs.Answer.{◌>>=◌}
-use Rattle.wild_value_spec.specs.Known.{Known, Start, Load, End, Address, Dot, nothing, number_at, with_number}
+use Rattle.wild_value_spec.specs.Known.{Known, Start, Load, End, Address, Dot, LoadDot, nothing, number_at, with_number}
 use Rattle.wild_value_spec.specs.Value.{sum_of, full_value}
 use Rattle.wild_plan_spec.specs.declared.chunk.Chunk.{Chunk}
 use Rattle.wild_plan_spec.specs.declared.chunk.ChunkRow.{ChunkRow}
+use Rattle.wild_plan_spec.specs.declared.place.Where.TheVariants.{Inside}
 use Rattle.wild_plan_spec.specs.declared.placed.PlacedLocation.{PlacedLocation}
 use Rattle.wild_plan_spec.specs.Chunks.{largest}
+use Rattle.wild_plan_spec.specs.Facts.{Facts}
 use Rattle.wild_plan_spec.specs.Ground.{Ground}
 use Rattle.wild_plan_spec.specs.Overlaps.{lowest_sharing}
 use Rattle.wild_plan_spec.specs.Places.{Place, SetLocation, Wait, Open, Collect, Rows, Close, Discard, Idle, Unbuilt}
-use Rattle.wild_plan_spec.specs.Points.{location_point}
+use Rattle.wild_plan_spec.specs.Points.{location_point, start_point, load_point}
 
 -- what stands before a place
 pub record State : Type 0 where
@@ -54,6 +56,8 @@ chunk_placed rows st =
 
 -- `.` of a place: in the contents of a section its cursor, else the location counter
 abbrev pub dot_before : Place → State → ℕ
+dot_before (SetLocation (Some s) e) st = st.cursor
+dot_before (Wait (Inside s) task) st = st.cursor
 dot_before (Collect (Some q) m) st = st.cursor
 dot_before (Rows q) st = st.cursor
 dot_before (Close s rest) st = st.cursor
@@ -63,34 +67,87 @@ dot_before p st = st.counter
 unfoldable pub dot_noted : ℕ → Place → State → State
 dot_noted i p st = record st { known = with_number (Dot i) (dot_before p st) st.known }
 
--- a section ends at the cursor, and so does the counter
-unfoldable pub section_ended : ℕ → State → Result State Fault
-section_ended s st = Ok (record st { counter = st.cursor; known = with_number (End s) st.cursor st.known })
-
 module _ (ground : Ground) where
   -- before the first place
   abbrev pub first_state : State
   first_state = record { counter = 0; cursor = 0; known = nothing; locations = [] }
 
-  -- a section starts, and is loaded, at the next multiple of its alignment
-  unfoldable pub section_opened : ℕ → State → Result State Fault
-  section_opened s st =
-      up st.counter (ground.facts s).alignment >>= (λ n.
-      Ok (record st { cursor = n; known = with_number (Load s) n (with_number (Start s) n st.known) }))
+  -- ---- a section begins
+
+  -- it starts where its start expression says, else at 0 where it floats, and else at the next multiple of its alignment
+  abbrev pub start_by : ℕ → Facts → Option Expression → State → Result ℕ Fault
+  start_by i f (Some e) st = full_value ground.scope i st.known [] e (start_point i)
+  start_by i f None st = if f.floating then Ok 0 else up st.counter f.alignment
+
+  -- where the section that place i opens starts
+  unfoldable pub start_found : ℕ → Facts → State → Result ℕ Fault
+  start_found i f st = start_by i f f.start st
+
+  -- it starts there, which its load address may ask for
+  unfoldable pub section_started : ℕ → ℕ → ℕ → State → State
+  section_started i s n st = record st { known = with_number (LoadDot i) n (with_number (Start s) n st.known) }
+
+  -- it is loaded where its AT clause says, and else where it starts
+  abbrev pub load_by : ℕ → Option Expression → ℕ → State → Result ℕ Fault
+  load_by i (Some e) n st = full_value ground.scope i st.known [] e (load_point i)
+  load_by i None n st = Ok n
+
+  -- where the section that place i opens is loaded, which starts at n
+  unfoldable pub load_found : ℕ → Facts → ℕ → State → Result ℕ Fault
+  load_found i f n st = load_by i f.load n st
+
+  -- it starts at n, so that its first row goes there, and is loaded at m
+  unfoldable pub section_loaded : ℕ → ℕ → ℕ → State → State
+  section_loaded s n m st = record st { cursor = n; known = with_number (Load s) m st.known }
+
+  -- a section, which starts at n, is loaded
+  unfoldable pub section_begun : ℕ → ℕ → ℕ → State → Result State Fault
+  section_begun i s n st = load_found i (ground.facts s) n st >>= (λ m. Ok (section_loaded s n m st))
+
+  -- a section begins: its start is found, and then its load address
+  unfoldable pub section_opened : ℕ → ℕ → State → Result State Fault
+  section_opened i s st = start_found i (ground.facts s) st >>= (λ n. section_begun i s n (section_started i s n st))
+
+  -- ---- in a section
 
   -- the rows of the chunk that a matcher collects for, if it has one
   unfoldable pub chunk_collected : Option Chunk → State → Result State Fault
   chunk_collected None st = Ok st
   chunk_collected (Some q) st = chunk_placed (ground.rows q) st
 
-  -- a section ends, unless it shares an address with this one
+  -- the cursor becomes the full value of the expression, in which `.` is the cursor as it was; it must not go back
+  abbrev pub cursor_moved : ℕ → ℕ → State → Result State Fault
+  cursor_moved i n st =
+      if nat_lt n st.cursor then Err (MovesBack i st.cursor n)
+      else Ok (record st { cursor = n; locations = st.locations ++ record { statement = i; address = n } ∷ [] })
+
+  -- the same, where the section of this number is open
+  unfoldable pub cursor_set : ℕ → ℕ → Expression → State → Result State Fault
+  cursor_set i s e st = full_value ground.scope i st.known [] e (location_point i (Some s)) >>= (λ n. cursor_moved i n st)
+
+  -- ---- a section ends
+
+  -- whether the section of this number floats
+  abbrev pub is_floating : ℕ → Bool
+  is_floating s = (ground.facts s).floating
+
+  -- it ends at the cursor, and so does the counter, unless it floats
+  unfoldable pub section_ended : ℕ → State → Result State Fault
+  section_ended s st =
+      Ok (record st { counter = if is_floating s then st.counter else st.cursor; known = with_number (End s) st.cursor st.known })
+
+  -- it ends, unless it shares an address with this one
   abbrev pub section_closed_by : ℕ → Option ℕ → State → Result State Fault
   section_closed_by s None st = section_ended s st
   section_closed_by s (Some other) st = Err (Overlap (ground.facts other).name (ground.facts s).name)
 
-  -- a section ends, unless it shares an address with an earlier one
+  -- the earlier section that it must not overlap; a floating one may overlap all
+  unfoldable pub overlapped : ℕ → State → Option ℕ
+  overlapped s st = if is_floating s then None else lowest_sharing is_floating st.known (number_at st.known (Start s)) st.cursor s
+
+  -- it ends, unless it shares an address with an earlier one
   unfoldable pub section_ended_alone : ℕ → State → Result State Fault
-  section_ended_alone s st = section_closed_by s (lowest_sharing st.known (number_at st.known (Start s)) st.cursor s) st
+  section_ended_alone s st = section_closed_by s (overlapped s st) st
 
   -- the rows of the rest are placed, and the section ends
   unfoldable pub section_ended_after : List ChunkRow → ℕ → State → Result State Fault
@@ -101,17 +158,20 @@ module _ (ground : Ground) where
   section_closed s None st = section_ended_alone s st
   section_closed s (Some q) st = section_ended_after (ground.rows q) s st
 
+  -- ---- places
+
   -- the counter becomes the full value of the expression, in which `.` is the counter as it was
-  unfoldable pub location_set : ℕ → Expression → State → Result State Fault
-  location_set i e st =
-      full_value ground.scope i st.known [] e (location_point i) >>= (λ n.
+  unfoldable pub counter_set : ℕ → Expression → State → Result State Fault
+  counter_set i e st =
+      full_value ground.scope i st.known [] e (location_point i None) >>= (λ n.
       Ok (record st { counter = n; locations = st.locations ++ record { statement = i; address = n } ∷ [] }))
 
   -- what place i does, or its refusal
   unfoldable pub effect : ℕ → Place → State → Result State Fault
-  effect i (SetLocation e) st = location_set i e st
+  effect i (SetLocation None e) st = counter_set i e st
+  effect i (SetLocation (Some s) e) st = cursor_set i s e st
   effect i (Wait w task) st = Ok st
-  effect i (Open s x) st = section_opened s st
+  effect i (Open s x) st = section_opened i s st
   effect i (Collect q m) st = chunk_collected q st
   effect i (Rows q) st = chunk_placed (ground.rows q) st
   effect i (Close s rest) st = section_closed s rest st

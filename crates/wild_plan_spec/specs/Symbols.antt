@@ -16,7 +16,7 @@ use Rattle.wild_plan_spec.specs.declared.row.SymbolRow.{SymbolRow}
 use Rattle.wild_plan_spec.specs.Definitions.{symbol_chunk}
 use Rattle.wild_plan_spec.specs.Names.{Name}
 use Rattle.wild_plan_spec.specs.Places.{Place, SetLocation, Wait, Open, Collect, Rows, Close, Discard, Idle, Unbuilt, Task, Assign, Provide, Locate, Check}
-use Rattle.wild_plan_spec.specs.Points.{task_point}
+use Rattle.wild_plan_spec.specs.Points.{holder, task_point}
 
 -- ---- of the table
 
@@ -32,9 +32,9 @@ table_symbols known fates (s ∷ ss) = table_symbol known s (symbol_chunk fates 
 
 -- ---- of the script
 
--- a symbol that the script defines outside of sections
-abbrev pub script_symbol : Name → Bool → ℕ → PlacedSymbol
-script_symbol name hidden address = record { name = name; address = address; «section» = None; hidden = hidden }
+-- a symbol of a script, in the section in whose contents it is defined
+abbrev pub script_symbol : Where → Name → Bool → ℕ → PlacedSymbol
+script_symbol w name hidden address = record { name = name; address = address; «section» = holder w; hidden = hidden }
 
 -- the definition is the one at place i
 abbrev pub is_at : ℕ → Option Definition → Bool
@@ -49,7 +49,7 @@ module _ (scope : Scope) (known : Known) where
   -- a symbol is listed with its value, which must not ask for itself
   unfoldable pub listed_symbol : ℕ → Where → Name → Expression → Bool → Result (Option PlacedSymbol) Fault
   listed_symbol i w name e hidden =
-      full_value scope i known (name ∷ []) e (task_point i w) >>= (λ n. Ok (Some (script_symbol name hidden n)))
+      full_value scope i known (name ∷ []) e (task_point i w) >>= (λ n. Ok (Some (script_symbol w name hidden n)))
 
   -- an empty name is not listed
   abbrev pub assignment_symbol : ℕ → Where → Name → Expression → Result (Option PlacedSymbol) Fault
@@ -70,7 +70,7 @@ module _ (scope : Scope) (known : Known) where
   -- what a place lists
   unfoldable pub place_symbol : ℕ → Place → Result (Option PlacedSymbol) Fault
   place_symbol i (Wait w task) = task_symbol i w task
-  place_symbol i (SetLocation e) = Ok None
+  place_symbol i (SetLocation s e) = Ok None
   place_symbol i (Open s x) = Ok None
   place_symbol i (Collect q m) = Ok None
   place_symbol i (Rows q) = Ok None

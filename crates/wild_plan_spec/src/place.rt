@@ -1,10 +1,12 @@
 //! Where the statements of a script stand.
 
-/// Where a statement stands that is in the contents of no section.
+/// Where a statement stands.
 #[derive(Clone, Copy, Debug, PartialEq, Eq)]
 pub enum Where {
     /// Outside of SECTIONS.
     Outermost,
-    /// In SECTIONS.
+    /// In SECTIONS, in no section.
     Between,
+    /// In the contents of the section of this number.
+    Inside(usize),
 }
