@@ -20,14 +20,16 @@ pub record IsParts (t : List Command) (parts : Parts) : Type 0 where
   pub sections : targets parts.sections ≡ sections_of t
   pub places : shown_places parts.places ≡ script_places t
 
--- where rows go by these rules, with orphans after these places and these sections
-pub record AreFatesBy (places : List Place) (rules : List Rule) (own : List Name) (rows : List InputRow) (script_fates : ScriptFates) : Type 0 where
+-- where rows go by these rules, with orphans after these places and these names
+pub record AreFatesBy (parts : Parts) (rules : List Rule) (own : List Name) (rows : List InputRow) (script_fates : ScriptFates) : Type 0 where
+  pub sections : targets script_fates.sections ≡ targets parts.sections
   pub names : script_fates.names ≡ own ++ orphans own (names_asked rules rows)
   pub fates : script_fates.fates ≡ all_fates rules (own ++ orphans own (names_asked rules rows)) rows
-  pub all_places : shown_places script_fates.places ≡ places ++ orphans_from (length own) (length (own ++ orphans own (names_asked rules rows)) - length own)
+  pub all_places : shown_places script_fates.places ≡ shown_places parts.places ++ orphans_from (length own) (length (own ++ orphans own (names_asked rules rows)) - length own)
 
 -- where the rows of a table go
 pub record AreFates (t : List Command) (inputs : InputTable) (script_fates : ScriptFates) : Type 0 where
+  pub sections : targets script_fates.sections ≡ sections_of t
   pub names : script_fates.names ≡ section_names t inputs
   pub fates : script_fates.fates ≡ fates_of t inputs
   pub places : shown_places script_fates.places ≡ places_of t inputs

@@ -28,7 +28,7 @@ shown_task (Check c) = spec.Check c.now
 
 -- a place, without that it is borrowed
 abbrev pub shown_place : Place → spec.Place
-shown_place (SetLocation e) = spec.SetLocation e.now
+shown_place (SetLocation s e) = spec.SetLocation s e.now
 shown_place (Wait w task) = spec.Wait w (shown_task task)
 shown_place (Open s x) = spec.Open s (option_copied x)
 shown_place (Collect q m) = spec.Collect q m.now

@@ -2,6 +2,7 @@
 #![tactic(auto)]
 
 mod built;
+mod clauses;
 mod fates;
 mod places;
 mod rules;

@@ -32,8 +32,8 @@ pub enum Task<'a> {
 /// A place of a script. A section has an Open, the places of its statements, and a Close; any other statement has one.
 #[derive(Clone, Copy, Debug)]
 pub enum Place<'a> {
-    /// The location counter becomes the value of the expression.
-    SetLocation(&'a Expression),
+    /// The location counter becomes the value of the expression; in the contents of this section its cursor does.
+    SetLocation(Option<usize>, &'a Expression),
     /// A task, which waits until all places are laid out.
     Wait(Where, Task<'a>),
     /// The section of this number begins: one of the script, or an orphan.
@@ -46,9 +46,9 @@ pub enum Place<'a> {
     Close(usize, Option<Chunk>),
     /// `/DISCARD/` begins, which does nothing.
     Discard(&'a Section),
-    /// `/DISCARD/` ends, or a command stands here that does nothing.
+    /// `/DISCARD/` ends, or what stands here does nothing.
     Idle,
-    /// A statement or a command whose meaning is not built yet.
+    /// A command whose meaning is not built yet.
     Unbuilt,
 }
 
@@ -63,12 +63,21 @@ fn push<'a>(places: &mut Items<Place<'a>>, place: Place<'a>) -> Result<(), NoMem
 fn content_place(section: usize, number: usize, command: &ContentsCommand) -> Place<'_>
     ensures { shown_place result ≡ content_place section number command.now }
 {
-    match command {
+    let task = match command {
         ContentsCommand::Matcher(matcher) => {
-            Place::Collect(Some(Chunk { section, number }), matcher)
+            return Place::Collect(Some(Chunk { section, number }), matcher);
         }
-        _ => Place::Unbuilt,
-    }
+        ContentsCommand::SetLocation(location) => {
+            return Place::SetLocation(Some(section), &location.address);
+        }
+        ContentsCommand::Constructors => return Place::Idle,
+        ContentsCommand::SymbolAssignment(assignment) => {
+            Task::Assign(&assignment.name, &assignment.expr)
+        }
+        ContentsCommand::Provide(definition) => Task::Provide(definition),
+        ContentsCommand::Assert(command) => Task::Check(command),
+    };
+    Place::Wait(Where::Inside(section), task)
 }
 
 // The number of the next chunk after a statement.
@@ -123,13 +132,13 @@ fn push_section<'a>(
     Ok(())
 }
 
-// A statement of `/DISCARD/`.
+// A statement of `/DISCARD/`, where only matchers may stand.
 fn discarding_place(command: &ContentsCommand) -> Place<'_>
     ensures { shown_place result ≡ discarding_place command.now }
 {
     match command {
         ContentsCommand::Matcher(matcher) => Place::Collect(None, matcher),
-        _ => Place::Unbuilt,
+        _ => Place::Idle,
     }
 }
 
@@ -181,7 +190,7 @@ fn push_inner<'a>(
             return push_any_section(places, number, section.get());
         }
         SectionCommand::SetLocation(location) => {
-            return push(places, Place::SetLocation(&location.address));
+            return push(places, Place::SetLocation(None, &location.address));
         }
         SectionCommand::SymbolAssignment(assignment) => {
             Task::Assign(&assignment.name, &assignment.expr)

@@ -5,7 +5,7 @@ ghost use Rattle.std.specs.Option.{option_copied, option_to_list};
 ghost use Rattle.wild_names.specs.declared.fault.Fault.TheVariants as fault;
 ghost use Rattle.wild_rules.specs.declared.fault.RuleFault.TheVariants as why;
 ghost use Rattle.wild_rules.specs.Making.{script_rule};
-ghost use Rattle.wild_plan_spec.specs.Checks.{pattern_check, pattern_checks, matcher_checks, checks_at, place_checks, failing};
+ghost use Rattle.wild_plan_spec.specs.Checks.{pattern_check, pattern_checks, statement_checks, checks_at, place_checks, failing};
 ghost use Rattle.wild_plan_spec.specs.Fates.{name_decision};
 ghost use Rattle.wild_plan_spec.specs.Rules.{rules_in};
 ghost use Rattle.wild_fates.specs.Numbered.{outcome_decision, outcome_for, rule_list, numbered_patterns, numbered_place, number_for, chunks_at, chunks_in, numbered_rules};
@@ -14,6 +14,7 @@ ghost use Rattle.wild_fates.specs.Passes.{Passes};
 ghost use Rattle.wild_fates.specs.Shown.{shown_place, shown_places};
 
 use crate::built::is_place_built;
+use crate::clauses::{check_discard, check_opening};
 use crate::places::Place;
 use sqlite_items::Items;
 use std::alloc::Global;
@@ -205,7 +206,8 @@ struct NumberedRules {
 }
 
 impl NumberedRules {
-    fn push_matcher(
+    // What a statement says is checked: a section of its clauses, `/DISCARD/`, and a matcher, whose rules it makes.
+    fn push_statement(
         &mut self,
         alloc: Global,
         statement: usize,
@@ -213,13 +215,15 @@ impl NumberedRules {
     ) -> Result<(), Fault>
         ensures rules { OnOk result (self.new.rules ≡ self.old.rules ++ numbered_place self.old.chunks (shown_place place.now)) }
         ensures chunks { OnOk result (self.new.chunks ≡ self.old.chunks ++ chunks_at (shown_place place.now)) }
-        ensures passes { Passes (failing (matcher_checks statement (shown_place place.now))) result }
+        ensures passes { Passes (failing (statement_checks statement (shown_place place.now))) result }
     {
         match *place {
             Place::Collect(chunk, matcher) => {
                 let id = number_chunk(&mut self.chunks, chunk)?;
                 push_patterns(alloc, &mut self.rules, statement, id, matcher)
             }
+            Place::Open(_, Some(section)) => check_opening(statement, section),
+            Place::Discard(section) => check_discard(statement, section),
             _ => Ok(()),
         }
     }
@@ -235,7 +239,7 @@ impl NumberedRules {
         ensures chunks { OnOk result (self.new.chunks ≡ self.old.chunks ++ chunks_at (shown_place place.now)) }
         ensures passes { Passes (failing (checks_at statement (shown_place place.now))) result }
     {
-        self.push_matcher(alloc, statement, place)?;
+        self.push_statement(alloc, statement, place)?;
         if is_place_built(place) {
             Ok(())
         } else {
@@ -260,8 +264,8 @@ fn number_rules(alloc: Global, places: &[Place<'_>]) -> Result<NumberedRules, Fa
     Ok(numbered)
 }
 
-/// The rules of these places, in their order. The fault is the first of a place: a pattern that has no reading, or what
-/// stands there is not built.
+/// The rules of these places, in their order. The fault is the first of a place: what a section or `/DISCARD/` must not
+/// say, a pattern that has no reading, or that what stands there is not built.
 #[tactic(auto, using(crate::proofs::Numbered::rules_are))]
 pub fn find_rules(alloc: Global, places: &[Place<'_>]) -> Result<Rules, Fault>
     ensures rules { IfOk result (λ rules. rules ≡ rules_in (shown_places places.now)) }

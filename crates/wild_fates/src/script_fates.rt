@@ -30,6 +30,8 @@ pub struct Parts<'a> {
 /// Where the rows of a table go.
 #[derive(Drop)]
 pub struct ScriptFates<'a> {
+    /// The sections of the script.
+    pub sections: Items<&'a Section>,
     /// The names of the sections, orphans last.
     pub names: SectionNames<'a>,
     /// The places of the script, and after them those of the orphans.
@@ -80,19 +82,26 @@ fn number_sections<'a>(alloc: Global, sections: &[&'a Section]) -> Result<Sectio
 // The fates of the rows, and the sections and places with those of the orphans.
 fn decide_by<'a>(
     alloc: Global,
-    places: Items<Place<'a>>,
+    parts: Parts<'a>,
     rules: &Rules,
     own: SectionNames<'a>,
     rows: &'a [InputRow],
 ) -> Result<ScriptFates<'a>, NoMemory>
-    ensures { IfOk result (AreFatesBy (shown_places places.entry) rules.now own.entry rows.now) }
+    ensures { IfOk result (AreFatesBy parts.entry rules.now own.entry rows.now) }
 {
-    let mut places = places;
+    let Parts {
+        sections,
+        mut places,
+    } = parts;
     let first = own.len();
-    let Fates { sections, fates } = find_fates(alloc, own, rules, rows)?;
-    push_orphans(&mut places, first, sections.len())?;
+    let Fates {
+        sections: names,
+        fates,
+    } = find_fates(alloc, own, rules, rows)?;
+    push_orphans(&mut places, first, names.len())?;
     Ok(ScriptFates {
-        names: sections,
+        sections,
+        names,
         places,
         fates,
     })
@@ -103,8 +112,8 @@ fn decide_by<'a>(
 ///
 /// # Errors
 ///
-/// First that of the first place that fails: a pattern without a reading, or what is not built. Then that
-/// of the first section with the name of an earlier one. NoMemory may come at any point.
+/// First that of the first place that fails: what a section or `/DISCARD/` must not say, a pattern without a reading, or
+/// what is not built. Then that of the first section with the name of an earlier one. NoMemory may come at any point.
 #[tactic(auto, using(std::proofs::lemmas::Grind::common_steps, crate::proofs::Failing::none_after))]
 pub fn decide_fates<'a>(
     alloc: Global,
@@ -114,9 +123,9 @@ pub fn decide_fates<'a>(
     ensures fates { IfOk result (AreFates commands.now inputs.now) }
     ensures passes { Passes (failing (script_checks commands.now)) result }
 {
-    let Parts { sections, places } = find_parts(alloc, commands)?;
-    let rules = find_rules(alloc, places.as_slice())?;
-    let own = number_sections(alloc, sections.as_slice())?;
-    let fates = decide_by(alloc, places, &rules, own, inputs.rows.as_slice())?;
+    let parts = find_parts(alloc, commands)?;
+    let rules = find_rules(alloc, parts.places.as_slice())?;
+    let own = number_sections(alloc, parts.sections.as_slice())?;
+    let fates = decide_by(alloc, parts, &rules, own, inputs.rows.as_slice())?;
     Ok(fates)
 }

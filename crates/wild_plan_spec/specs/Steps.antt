@@ -52,6 +52,22 @@ chunk_placed rows st =
     up st.cursor (largest rows) >>= (λ n.
     rows_placed rows (record st { cursor = n }))
 
+-- ---- sections
+
+-- section s, which place i opens, starts at n, which its load address may ask for
+unfoldable pub section_started : ℕ → ℕ → ℕ → State → State
+section_started i s n st = record st { known = with_number (LoadDot i) n (with_number (Start s) n st.known) }
+
+-- it starts at n, so that its first row goes there, and is loaded at m
+unfoldable pub section_loaded : ℕ → ℕ → ℕ → State → State
+section_loaded s n m st = record st { cursor = n; known = with_number (Load s) m st.known }
+
+-- the cursor becomes n at place i; it must not go back
+abbrev pub cursor_moved : ℕ → ℕ → State → Result State Fault
+cursor_moved i n st =
+    if nat_lt n st.cursor then Err (MovesBack i st.cursor n)
+    else Ok (record st { cursor = n; locations = st.locations ++ record { statement = i; address = n } ∷ [] })
+
 -- ---- places
 
 -- `.` of a place: in the contents of a section its cursor, else the location counter
@@ -83,10 +99,6 @@ module _ (ground : Ground) where
   unfoldable pub start_found : ℕ → Facts → State → Result ℕ Fault
   start_found i f st = start_by i f f.start st
 
-  -- it starts there, which its load address may ask for
-  unfoldable pub section_started : ℕ → ℕ → ℕ → State → State
-  section_started i s n st = record st { known = with_number (LoadDot i) n (with_number (Start s) n st.known) }
-
   -- it is loaded where its AT clause says, and else where it starts
   abbrev pub load_by : ℕ → Option Expression → ℕ → State → Result ℕ Fault
   load_by i (Some e) n st = full_value ground.scope i st.known [] e (load_point i)
@@ -95,10 +107,6 @@ module _ (ground : Ground) where
   -- where the section that place i opens is loaded, which starts at n
   unfoldable pub load_found : ℕ → Facts → ℕ → State → Result ℕ Fault
   load_found i f n st = load_by i f.load n st
-
-  -- it starts at n, so that its first row goes there, and is loaded at m
-  unfoldable pub section_loaded : ℕ → ℕ → ℕ → State → State
-  section_loaded s n m st = record st { cursor = n; known = with_number (Load s) m st.known }
 
   -- a section, which starts at n, is loaded
   unfoldable pub section_begun : ℕ → ℕ → ℕ → State → Result State Fault
@@ -115,13 +123,7 @@ module _ (ground : Ground) where
   chunk_collected None st = Ok st
   chunk_collected (Some q) st = chunk_placed (ground.rows q) st
 
-  -- the cursor becomes the full value of the expression, in which `.` is the cursor as it was; it must not go back
-  abbrev pub cursor_moved : ℕ → ℕ → State → Result State Fault
-  cursor_moved i n st =
-      if nat_lt n st.cursor then Err (MovesBack i st.cursor n)
-      else Ok (record st { cursor = n; locations = st.locations ++ record { statement = i; address = n } ∷ [] })
-
-  -- the same, where the section of this number is open
+  -- the cursor of section s becomes the full value of the expression, in which `.` is the cursor as it was
   unfoldable pub cursor_set : ℕ → ℕ → Expression → State → Result State Fault
   cursor_set i s e st = full_value ground.scope i st.known [] e (location_point i (Some s)) >>= (λ n. cursor_moved i n st)
 
