@@ -12,7 +12,17 @@ fn dot_at(stand: Where) -> DotSource
 {
     match stand {
         Where::Outermost => DotSource::Zero,
-        Where::Between => DotSource::OfPlace,
+        Where::Between | Where::Inside(_) => DotSource::OfPlace,
+    }
+}
+
+/// The section in whose contents a statement stands that stands here.
+pub fn holder(stand: Where) -> Option<usize>
+    ensures { result ≡ spec.holder stand }
+{
+    match stand {
+        Where::Outermost | Where::Between => None,
+        Where::Inside(section) => Some(section),
     }
 }
 
@@ -23,17 +33,39 @@ pub fn task_point(place: usize, stand: Where) -> Point
     Point {
         place,
         dot: dot_at(stand),
-        section: None,
+        section: holder(stand),
     }
 }
 
-/// The point of `. =` in SECTIONS at a place: there `.` is the location counter as it was.
-pub fn location_point(place: usize) -> Point
-    ensures { result ≡ spec.location_point place }
+/// The point of `. =` at a place, in the contents of this section or in none: there `.` is as it was.
+pub fn location_point(place: usize, section: Option<usize>) -> Point
+    ensures { result ≡ spec.location_point place section }
 {
     Point {
         place,
         dot: DotSource::OfPlace,
+        section,
+    }
+}
+
+/// The point of the start of the section that a place opens: there `.` is the location counter.
+pub fn start_point(place: usize) -> Point
+    ensures { result ≡ spec.start_point place }
+{
+    Point {
+        place,
+        dot: DotSource::OfPlace,
+        section: None,
+    }
+}
+
+/// The point of its load address: there `.` is its start.
+pub fn load_point(place: usize) -> Point
+    ensures { result ≡ spec.load_point place }
+{
+    Point {
+        place,
+        dot: DotSource::OfLoad,
         section: None,
     }
 }
