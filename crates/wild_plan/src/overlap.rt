@@ -44,12 +44,11 @@ fn if_shares(
 
 /// Of two sections the one that starts lower, or the first of them.
 fn lower_section(
-    ground: &Ground<'_>,
     addresses: &Addresses,
     first: Option<usize>,
     second: Option<usize>,
 ) -> Option<usize>
-    ensures { result ≡ spec.lower_section (is_floating (shown_ground ground.now)) (known_of addresses.now) first second }
+    ensures { result ≡ spec.lower_section (known_of addresses.now) first second }
 {
     match (first, second) {
         (None, found) => found,
@@ -78,7 +77,7 @@ pub fn lowest_sharing(
     let mut found = None;
     for section in 0..count {
         let next = if_shares(ground, addresses, start, end, section);
-        found = lower_section(ground, addresses, found, next);
+        found = lower_section(addresses, found, next);
     }
     found
 }

@@ -15,10 +15,18 @@ use wild_plan_spec::{InputRow, Kept};
 pub struct Traits {
     /// The largest alignment of its rows, or 1.
     pub alignment: Alignment,
+    /// There is a row.
+    pub rows: bool,
+    /// Some row is in memory.
+    pub alloc: bool,
     /// Some row is writable.
     pub write: bool,
     /// Some row is executable.
     pub exec: bool,
+    /// Some row has bits in the file.
+    pub bits: bool,
+    /// Some row is thread-local.
+    pub tls: bool,
 }
 
 /// The traits of each section that has rows, by its number.
@@ -44,8 +52,12 @@ impl Traits {
     {
         Traits {
             alignment: self.alignment.max(alignment_of(row)),
+            rows: true,
+            alloc: self.alloc || row.flags.contains(InputFlags::ALLOC),
             write: self.write || row.flags.contains(InputFlags::WRITE),
             exec: self.exec || row.flags.contains(InputFlags::EXEC),
+            bits: self.bits || !row.flags.contains(InputFlags::NOBITS),
+            tls: self.tls || row.flags.contains(InputFlags::TLS),
         }
     }
 }
@@ -92,8 +104,12 @@ impl SectionTraits {
 /// The traits of a section without rows.
 pub const NONE: Traits = Traits {
     alignment: wild_base::alignment::MIN,
+    rows: false,
+    alloc: false,
     write: false,
     exec: false,
+    bits: false,
+    tls: false,
 };
 
 fn fate_at(fates: &[Option<Kept>], index: usize) -> Option<Kept>

@@ -85,49 +85,41 @@ are_nobits rows = has_rows rows && not (list_any (λ row. not (is_nobits row.fla
 
 -- ---- sections
 
+-- marked as no part of the memory, or of rows that are not in it
+abbrev pub is_floating : Option SectionAttributes → List InputRow → Bool
+is_floating a rows = floats a || are_outside rows
+
 -- this bit, where it is set
 abbrev pub bit : Bool → ℕ → ℕ
 bit b n = if b then n else 0
 
 -- in memory unless it floats; writable, executable or thread-local where some row is, though not writable where it is marked
 -- so; and not in the file where its rows are not, or where it is marked so
-abbrev pub flags_of : Option SectionAttributes → Bool → List InputRow → InputFlags
-flags_of a floating rows = record {
-  0 = bit (not floating) 1
+abbrev pub flags_of : Option SectionAttributes → List InputRow → InputFlags
+flags_of a rows = record {
+  0 = bit (not (is_floating a rows)) 1
       + bit (list_any (λ row. is_write row.flags) rows && not (is_readonly a)) 2
       + bit (list_any (λ row. is_exec row.flags) rows) 4
       + bit (are_nobits rows || is_noload a) 8
       + bit (list_any (λ row. is_tls row.flags) rows) 16;
 }
 
--- a section of the script, of this name and with these rows, floats where it is marked so or its rows are not in memory
-abbrev pub script_facts : Name → Section → List InputRow → Facts
-script_facts name x rows = record {
-  name = name;
-  alignment = max (clause_alignment x.alignment) (largest_alignment rows);
-  floating = floats x.attributes || are_outside rows;
-  flags = flags_of x.attributes (floats x.attributes || are_outside rows) rows;
-  fill = option_map (λ f. fill_number (number_in (const f.value))) x.fill;
-  start = x.start_address_expression;
-  load = x.at_address;
-}
+-- what a section of the script says of itself; an orphan says nothing
+abbrev pub said : {A : Type 0} → (Section → Option A) → Option Section → Option A
+said clause None = None
+said clause (Some x) = clause x
 
--- an orphan of this name, with these rows, has no clauses
-abbrev pub orphan_facts : Name → List InputRow → Facts
-orphan_facts name rows = record {
-  name = name;
-  alignment = largest_alignment rows;
-  floating = are_outside rows;
-  flags = flags_of None (are_outside rows) rows;
-  fill = None;
-  start = None;
-  load = None;
-}
-
--- of a section of the script, if it is one, or else of an orphan
+-- of a section of this name with these rows: one of the script, or an orphan
 abbrev pub section_facts : Name → Option Section → List InputRow → Facts
-section_facts name (Some x) rows = script_facts name x rows
-section_facts name None rows = orphan_facts name rows
+section_facts name x rows = record {
+  name = name;
+  alignment = max (clause_alignment (said (λ s. s.alignment) x)) (largest_alignment rows);
+  floating = is_floating (said (λ s. s.attributes) x) rows;
+  flags = flags_of (said (λ s. s.attributes) x) rows;
+  fill = option_map (λ f. fill_number (number_in (const f.value))) (said (λ s. s.fill) x);
+  start = said (λ s. s.start_address_expression) x;
+  load = said (λ s. s.at_address) x;
+}
 
 -- of sections of these names, by the sections of the script and the fate of each row; the first has the number s
 abbrev pub facts_from : List Section → List InputRow → List (Option Kept) → ℕ → List Name → List Facts
@@ -141,4 +133,4 @@ facts_of t inputs = facts_from (sections_of t) inputs.rows (fates_of t inputs) 0
 
 -- of the section of this number; where there is none, of one without name and rows
 abbrev pub facts_at : List Facts → ℕ → Facts
-facts_at facts s = unwrap_or (slice_get facts s) (orphan_facts [] [])
+facts_at facts s = unwrap_or (slice_get facts s) (section_facts [] None [])
