@@ -4,7 +4,7 @@ ghost use Rattle.std.specs.Prelude.{◌≡◌, [], ◌∷◌, ◌++◌, OnOk, If
 ghost use Rattle.std.specs.List.{list_any};
 ghost use Rattle.wild_numbering.specs.Numbering.{is_named};
 ghost use Rattle.wild_names.specs.declared.fault.Fault.TheVariants.{DuplicateSymbol};
-ghost use Rattle.wild_plan_spec.specs.Checks.{row_checks, holds_offset, symbol_checks, table_checks, name_checks, are_flags_built, is_supported, support_checks, checks, failing};
+ghost use Rattle.wild_plan_spec.specs.Checks.{row_checks, holds_offset, symbol_checks, table_checks, name_checks, checks, failing};
 ghost use Rattle.wild_plan_spec.specs.Definitions.{entry_names};
 ghost use Rattle.wild_plan.specs.Case.{shown_case};
 ghost use Rattle.wild_plan.specs.Checked.{IsChecked};
@@ -107,45 +107,10 @@ fn number_entries(alloc: Global, entries: &[SymbolEntry<'_>]) -> Result<Numberin
     Ok(names)
 }
 
-// ---- flags
-
-// It is in memory, and neither without bits nor thread-local.
-fn are_flags_built(flags: InputFlags) -> bool
-    ensures { result ≡ are_flags_built flags }
-{
-    flags.contains(InputFlags::ALLOC)
-        && !flags.contains(InputFlags::NOBITS)
-        && !flags.contains(InputFlags::TLS)
-}
-
-// Where a row is kept, its flags are built.
-fn is_supported(fate: Option<Kept>, flags: InputFlags) -> bool
-    ensures { result ≡ is_supported fate flags }
-{
-    match fate {
-        Some(_) => are_flags_built(flags),
-        None => true,
-    }
-}
-
-// Checks that the flags of each row that is kept are built. The fault is that of the first row with others.
-fn check_support(rows: &[InputRow], fates: &[Option<Kept>]) -> Result<(), Fault>
-    requires { length fates.now ≡ length rows.now }
-    ensures { Passes (failing (support_checks 0 rows.now fates.now)) result }
-{
-    for (index, row) in rows.iter().enumerate() {
-        if !is_supported(fates[index], row.flags) {
-            return Err(Fault::Unsupported { index });
-        }
-    }
-    Ok(())
-}
-
 // ---- all checks
 
 /// Checks a case, and answers what it defines: the table, then the places of the script and the names of its sections, then
-/// the names of the symbols, then that the rows are built.
-#[tactic(auto, using(wild_fates::proofs::Orphans::fates_length))]
+/// the names of the symbols.
 pub fn check<'a>(alloc: Global, case: &Case<'a>) -> Result<Definitions<'a>, Fault>
     ensures sound { IfOk result (IsChecked (shown_case case.now)) }
     ensures failing { IfErr result (IsWanted (failing (checks (shown_case case.now)))) }
@@ -157,7 +122,6 @@ pub fn check<'a>(alloc: Global, case: &Case<'a>) -> Result<Definitions<'a>, Faul
     let symbols = case.inputs.symbols.as_slice();
     let mut entries = find_firm_entries(alloc, fates, symbols, places)?;
     let mut names = number_entries(alloc, entries.as_slice())?;
-    check_support(case.inputs.rows.as_slice(), fates)?;
     push_provided_entries(alloc, &mut entries, &mut names, places)?;
     Ok(Definitions {
         script_fates,

@@ -1,39 +1,142 @@
 //! What a script and its table say of each section, before any address is known.
 
 ghost use Rattle.std.specs.Prelude.{◌≡◌, ◌∷◌, ◌++◌, [], OnOk, IfOk, length};
-ghost use Rattle.wild_plan_spec.specs.Facts.{facts_from};
+ghost use Rattle.std.specs.Option.{option_copied, option_map};
+ghost use Rattle.wild_plan_spec.specs.Facts as spec;
+ghost use Rattle.wild_value_spec.specs.Const.{const};
 ghost use Rattle.wild_fates.specs.Targets.{targets};
-ghost use Rattle.wild_plan.specs.Facts.{alignments_in, facts_by, facts_with, flags_by, shown_all};
+ghost use Rattle.wild_plan.specs.Facts.{alignments_in, facts_by, facts_with, flags_by, floating_by, shown_all, shown_facts};
 ghost use Rattle.wild_plan.specs.Traits.{traits_at};
 
 use crate::traits::{SectionTraits, Traits, find_traits};
 use bitflags::Flags;
 use sqlite_items::Items;
 use std::alloc::Global;
-use wild_base::{Alignment, InputFlags, Name, NoMemory};
+use wild_base::{Alignment, InputFlags, Name, NoMemory, alignment};
+use wild_eval::evaluate_const;
 use wild_plan_spec::{InputRow, Kept};
+use wild_script_tree::{Expression, Fill, Section, SectionAttributes};
 
 /// What is said of a section.
 #[derive(Debug, Drop)]
 pub struct Facts<'a> {
     pub name: &'a Name,
-    /// The largest alignment of its rows, or 1.
+    /// The larger of its ALIGN clause and the largest alignment of its rows.
     pub alignment: Alignment,
+    /// It is laid out beside the others: it moves no location counter, and may share addresses.
+    pub floating: bool,
     pub flags: InputFlags,
+    pub fill: Option<u32>,
+    /// Its start expression, before the colon.
+    pub start: Option<&'a Expression>,
+    /// Its load address, of the AT clause.
+    pub load: Option<&'a Expression>,
 }
 
-// In memory, and writable or executable where a row is.
-fn flags_by(traits: Traits) -> InputFlags
-    ensures { result ≡ flags_by traits }
+// ---- clauses
+
+// The number of a constant, or 0; what is none is refused before.
+fn number_in(expression: &Expression) -> u64
+    ensures { result ≡ spec.number_in (const expression.now) }
 {
-    let mut flags = InputFlags::ALLOC;
-    if traits.write {
-        flags.insert(InputFlags::WRITE);
+    match evaluate_const(expression) {
+        Ok(number) => number,
+        Err(_) => 0,
     }
-    if traits.exec {
-        flags.insert(InputFlags::EXEC);
+}
+
+// The alignment of an ALIGN clause, or else 1.
+fn clause_alignment(clause: Option<&Expression>) -> Alignment
+    ensures { result ≡ spec.clause_alignment (option_copied clause.entry) }
+{
+    let Some(expression) = clause else {
+        return alignment::MIN;
+    };
+    match Alignment::new(number_in(expression)) {
+        Ok(alignment) => alignment,
+        Err(_) => alignment::MIN,
     }
-    flags
+}
+
+// A fill of four bytes, or 0; what does not fit in them is refused before.
+fn fill_number(fill: &Fill) -> u32
+    ensures { result ≡ spec.fill_number (spec.number_in (const fill.now.value)) }
+{
+    match u32::try_from(number_in(&fill.value)) {
+        Ok(number) => number,
+        Err(_) => 0,
+    }
+}
+
+fn fill_of(fill: Option<&Fill>) -> Option<u32>
+    ensures { result ≡ option_map (λ f. spec.fill_number (spec.number_in (const f.value))) (option_copied fill.entry) }
+{
+    match fill {
+        Some(fill) => Some(fill_number(fill)),
+        None => None,
+    }
+}
+
+// It is marked as no part of the memory.
+fn floats(attributes: Option<SectionAttributes>) -> bool
+    ensures { result ≡ spec.floats attributes }
+{
+    match attributes {
+        Some(
+            SectionAttributes::Dsect
+            | SectionAttributes::Copy
+            | SectionAttributes::Info
+            | SectionAttributes::Overlay,
+        ) => true,
+        Some(SectionAttributes::Noload | SectionAttributes::Readonly) | None => false,
+    }
+}
+
+// ---- sections
+
+// It is marked as no part of the memory, or its rows are not in it.
+fn floating_by(attributes: Option<SectionAttributes>, traits: Traits) -> bool
+    ensures { result ≡ floating_by attributes traits }
+{
+    floats(attributes) || (traits.rows && !traits.alloc)
+}
+
+// The flag, where it is set.
+fn flag(set: bool, flag: InputFlags) -> InputFlags
+    ensures { result ≡ record { 0 = spec.bit set flag.0 } }
+{
+    if set { flag } else { InputFlags::empty() }
+}
+
+// The flags of a section with these marks and traits.
+fn flags_by(attributes: Option<SectionAttributes>, traits: Traits) -> InputFlags
+    ensures { result ≡ flags_by attributes traits }
+{
+    let readonly = attributes == Some(SectionAttributes::Readonly);
+    let noload = attributes == Some(SectionAttributes::Noload);
+    let nobits = (traits.rows && !traits.bits) || noload;
+    flag(!floating_by(attributes, traits), InputFlags::ALLOC)
+        | flag(traits.write && !readonly, InputFlags::WRITE)
+        | flag(traits.exec, InputFlags::EXEC)
+        | flag(nobits, InputFlags::NOBITS)
+        | flag(traits.tls, InputFlags::TLS)
+}
+
+// What is said of a section of this name, with these traits.
+fn facts_by<'a>(name: &'a Name, section: Option<&'a Section>, traits: Traits) -> Facts<'a>
+    ensures { shown_facts result ≡ facts_by name.now (option_copied section.entry) traits }
+{
+    let attributes = section.and_then(|section| section.attributes);
+    let align = section.and_then(|section| section.alignment.as_ref());
+    Facts {
+        name,
+        alignment: clause_alignment(align).max(traits.alignment),
+        floating: floating_by(attributes, traits),
+        flags: flags_by(attributes, traits),
+        fill: fill_of(section.and_then(|section| section.fill.as_ref())),
+        start: section.and_then(|section| section.start_address_expression.as_ref()),
+        load: section.and_then(|section| section.at_address.as_ref()),
+    }
 }
 
 // A section with these traits after the others.
@@ -41,46 +144,46 @@ fn flags_by(traits: Traits) -> InputFlags
 fn push_section<'a>(
     facts: &mut Items<Facts<'a>>,
     name: &'a Name,
+    section: Option<&'a Section>,
     traits: Traits,
 ) -> Result<(), NoMemory>
-    ensures { OnOk result (shown_all facts.new ≡ shown_all facts.old ++ facts_by name.now traits ∷ []) }
+    ensures { OnOk result (shown_all facts.new ≡ shown_all facts.old ++ facts_by name.now (option_copied section.entry) traits ∷ []) }
 {
-    facts.push(Facts {
-        name,
-        alignment: traits.alignment,
-        flags: flags_by(traits),
-    })?;
+    facts.push(facts_by(name, section, traits))?;
     Ok(())
 }
 
-// Of sections of these names, which are numbered in order from 0 and have these traits.
+// Of sections of these names, which are numbered in order from 0 and have these traits; the first are those of the script.
 fn facts_with<'a>(
     alloc: Global,
+    sections: &[&'a Section],
     traits: &SectionTraits,
     names: &[&'a Name],
 ) -> Result<Items<Facts<'a>>, NoMemory>
-    ensures { IfOk result (λ facts. shown_all facts ≡ facts_with (traits_at traits.now) 0 (targets names.now)) }
+    ensures { IfOk result (λ facts. shown_all facts ≡ facts_with (targets sections.now) (traits_at traits.now) 0 (targets names.now)) }
 {
     let mut facts = Items::new(alloc);
     for (number, name) in names.iter().enumerate() {
-        push_section(&mut facts, name, traits.get(number))?;
+        let section = sections.get(number).copied();
+        push_section(&mut facts, name, section, traits.get(number))?;
     }
     Ok(facts)
 }
 
-/// What is said of sections of these names, which are numbered in order from 0, by the rows and the fate of each. Fails
-/// where memory runs out.
+/// What is said of sections of these names, which are numbered in order from 0, by the sections of the script, the rows and
+/// the fate of each. Fails where memory runs out.
 pub fn find_facts<'a>(
     alloc: Global,
+    sections: &[&'a Section],
     rows: &[InputRow],
     fates: &[Option<Kept>],
     names: &[&'a Name],
 ) -> Result<Items<Facts<'a>>, NoMemory>
     requires { length fates.now ≡ length rows.now }
-    ensures { IfOk result (λ facts. shown_all facts ≡ facts_from rows.now fates.now 0 (targets names.now)) }
+    ensures { IfOk result (λ facts. shown_all facts ≡ spec.facts_from (targets sections.now) rows.now fates.now 0 (targets names.now)) }
 {
     let traits = find_traits(alloc, rows, fates)?;
-    facts_with(alloc, &traits, names)
+    facts_with(alloc, sections, &traits, names)
 }
 
 /// The alignment of each section.

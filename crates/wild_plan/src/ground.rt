@@ -2,7 +2,9 @@
 
 ghost use Rattle.std.specs.Prelude.{◌≡◌, IfOk};
 ghost use Rattle.wild_plan_spec.specs.Facts.{facts_of};
+ghost use Rattle.std.specs.Option.{option_copied};
 ghost use Rattle.wild_plan_spec.specs.Ground.{ground_of};
+ghost use Rattle.wild_plan_spec.specs.Steps.{is_floating};
 ghost use Rattle.wild_plan.specs.Basis.{IsBasis};
 ghost use Rattle.wild_plan.specs.Case.{shown_case};
 ghost use Rattle.wild_plan.specs.Checked.{IsChecked};
@@ -18,6 +20,7 @@ use sqlite_items::Items;
 use std::alloc::Global;
 use wild_base::{Alignment, NoMemory};
 use wild_eval::Scope;
+use wild_script_tree::Expression;
 
 /// What a script and its table say, beside what becomes known from place to place. The walk, the end and the lists all
 /// read it.
@@ -40,6 +43,36 @@ impl<'a> Ground<'a> {
         match self.facts.get(section) {
             Some(facts) => facts.alignment,
             None => wild_base::alignment::MIN,
+        }
+    }
+
+    /// Whether a section floats.
+    pub fn is_floating(&self, section: usize) -> bool
+        ensures { result ≡ is_floating (shown_ground self.now) section }
+    {
+        match self.facts.get(section) {
+            Some(facts) => facts.floating,
+            None => false,
+        }
+    }
+
+    /// The start expression of a section, where it has one.
+    pub fn start(&self, section: usize) -> Option<&'a Expression>
+        ensures { option_copied result ≡ ((shown_ground self.now).facts section).start }
+    {
+        match self.facts.get(section) {
+            Some(facts) => facts.start,
+            None => None,
+        }
+    }
+
+    /// The load address of a section, where it has an AT clause.
+    pub fn load(&self, section: usize) -> Option<&'a Expression>
+        ensures { option_copied result ≡ ((shown_ground self.now).facts section).load }
+    {
+        match self.facts.get(section) {
+            Some(facts) => facts.load,
+            None => None,
         }
     }
 
@@ -80,7 +113,8 @@ pub fn find_basis<'a>(
     let rows = case.inputs.rows.as_slice();
     let fates = definitions.script_fates.fates.as_slice();
     let names = definitions.script_fates.names.as_slice();
-    let facts = find_facts(alloc, rows, fates, names)?;
+    let sections = definitions.script_fates.sections.as_slice();
+    let facts = find_facts(alloc, sections, rows, fates, names)?;
     let alignments = alignments_in(alloc, facts.as_slice())?;
     let chunks = find_chunks(alloc, rows, fates)?;
     Ok(Basis {

@@ -30,10 +30,10 @@ fn placed_section(
         size: addresses.end(number).saturating_sub(start),
         alignment: facts.alignment,
         flags: facts.flags,
-        fill: None,
+        fill: facts.fill,
         region: None,
         headers: Names::new(alloc),
-        counted: true,
+        counted: !facts.floating,
     })
 }
 

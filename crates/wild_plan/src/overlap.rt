@@ -11,13 +11,7 @@ use wild_eval::Addresses;
 
 /// Whether an earlier section that does not float holds one of the addresses from start up to end.
 #[tactic(auto, unfolding(wild_plan_spec::specs::Overlaps::shares))]
-fn shares(
-    ground: &Ground<'_>,
-    addresses: &Addresses,
-    start: u64,
-    end: u64,
-    section: usize,
-) -> bool
+fn shares(ground: &Ground<'_>, addresses: &Addresses, start: u64, end: u64, section: usize) -> bool
     ensures { result ≡ spec.shares (is_floating (shown_ground ground.now)) (known_of addresses.now) start end section }
 {
     let other_start = addresses.start(section);

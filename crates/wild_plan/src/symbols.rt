@@ -12,6 +12,7 @@ ghost use Rattle.wild_value_spec.specs.Answer.{Returns};
 
 use crate::definitions::symbol_chunk;
 use crate::ends::End;
+use crate::points::holder;
 use sqlite_items::Items;
 use std::alloc::{AllocError, Global};
 use wild_base::{Fault, Name, NoMemory};
@@ -122,7 +123,7 @@ impl End<'_> {
         Ok(Some(PlacedSymbol {
             name: name.copy(self.ground.alloc)?,
             address,
-            section: None,
+            section: holder(stand),
             hidden,
         }))
     }

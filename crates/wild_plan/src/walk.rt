@@ -1,10 +1,12 @@
 //! The walk over the places of a script, which finds each address.
 
-ghost use Rattle.std.specs.Prelude.{◌≡◌, ◌⊎◌, length, IfOk, IfErr, OnOk};
+ghost use Rattle.std.specs.Prelude.{◌≡◌, ◌⊎◌, [], length, IfOk, IfErr, OnOk};
 ghost use Rattle.wild_names.specs.declared.fault.Fault.TheVariants as fault;
-ghost use Rattle.wild_value_spec.specs.Answer.{Returns};
+ghost use Rattle.wild_eval.specs.Addresses.{known_of};
+ghost use Rattle.wild_value_spec.specs.Answer.{Gives, Returns};
+ghost use Rattle.wild_value_spec.specs.Value.{full_value};
 ghost use Rattle.wild_plan_spec.specs.Chunks.{largest};
-ghost use Rattle.wild_plan_spec.specs.Steps.{first_state, up, dot_before, dot_noted, section_opened, row_placed, rows_placed, chunk_placed, chunk_collected, section_ended, section_ended_alone, section_ended_after, section_closed, location_set, effect, step};
+ghost use Rattle.wild_plan_spec.specs.Steps.{first_state, up, dot_before, dot_noted, start_found, section_started, load_found, section_loaded, section_begun, section_opened, row_placed, rows_placed, chunk_placed, chunk_collected, cursor_moved, cursor_set, section_ended, overlapped, section_ended_alone, section_ended_after, section_closed, counter_set, effect, step};
 ghost use Rattle.wild_plan_spec.specs.Walk.{Stands, Refuses};
 ghost use Rattle.wild_plan.specs.Ground.{shown_ground};
 ghost use Rattle.wild_plan.specs.Moves.{Moves, state_of};
@@ -12,14 +14,15 @@ ghost use Rattle.wild_fates.specs.Shown.{shown_place, shown_places};
 
 use crate::ground::Ground;
 use crate::overlap::lowest_sharing;
-use crate::points::location_point;
+use crate::points::{load_point, location_point, start_point};
 use sqlite_items::Items;
 use std::alloc::{AllocError, Global};
 use wild_base::{Alignment, Fault, Name, NoMemory, alignment};
 use wild_eval::{Addresses, Evaluator, Path, sum};
 use wild_fates::Place;
-use wild_plan_spec::{Chunk, ChunkRow, PlacedLocation};
+use wild_plan_spec::{Chunk, ChunkRow, PlacedLocation, Where};
 use wild_script_tree::Expression;
+use wild_value_spec::Point;
 
 /// What stands before a place.
 #[derive(Drop)]
@@ -79,18 +82,105 @@ impl Walk {
         }
     }
 
-    // ---- sections and rows
-
-    #[tactic(auto, unfolding(wild_plan_spec::specs::Steps::section_opened))]
-    fn open_section(&mut self, ground: &Ground<'_>, section: usize) -> Result<(), Fault>
-        ensures { Moves result self.new (section_opened (shown_ground ground.now) section (state_of self.old)) }
+    // The number that an expression of this place stands for at a point, over what is known.
+    fn full(
+        &self,
+        ground: &Ground<'_>,
+        place: usize,
+        expression: &Expression,
+        point: Point,
+    ) -> Result<u64, Fault>
+        ensures { Gives result (full_value (shown_ground ground.now).scope place (known_of self.now.addresses) [] expression.now point) }
     {
-        let start = up(self.counter, ground.alignment(section))?;
+        let evaluator = Evaluator {
+            alloc: ground.alloc,
+            scope: &ground.scope,
+            addresses: &self.addresses,
+            statement: place,
+        };
+        evaluator.full(&Path::Start, expression, point)
+    }
+
+    // ---- a section begins
+
+    // Where its start expression says, else at 0 where it floats, and else at the next multiple of its alignment.
+    #[tactic(auto, unfolding(wild_plan_spec::specs::Steps::start_found))]
+    fn find_start(&self, ground: &Ground<'_>, place: usize, section: usize) -> Result<u64, Fault>
+        ensures { Returns result (start_found (shown_ground ground.now) place ((shown_ground ground.now).facts section) (state_of self.now)) }
+    {
+        match ground.start(section) {
+            Some(expression) => self.full(ground, place, expression, start_point(place)),
+            None if ground.is_floating(section) => Ok(0),
+            None => up(self.counter, ground.alignment(section)),
+        }
+    }
+
+    // It starts there, which its load address may ask for.
+    #[tactic(auto, unfolding(wild_plan_spec::specs::Steps::section_started))]
+    fn start_section(&mut self, place: usize, section: usize, start: u64) -> Result<(), AllocError>
+        ensures { OnOk result (state_of self.new ≡ section_started place section start (state_of self.old)) }
+    {
         self.addresses.learn_start(section, start)?;
-        self.addresses.learn_load(section, start)?;
+        self.addresses.learn_load_dot(place, start)
+    }
+
+    // Where its AT clause says, and else where it starts.
+    #[tactic(auto, unfolding(wild_plan_spec::specs::Steps::load_found))]
+    fn find_load(
+        &self,
+        ground: &Ground<'_>,
+        place: usize,
+        section: usize,
+        start: u64,
+    ) -> Result<u64, Fault>
+        ensures { Returns result (load_found (shown_ground ground.now) place ((shown_ground ground.now).facts section) start (state_of self.now)) }
+    {
+        match ground.load(section) {
+            Some(expression) => self.full(ground, place, expression, load_point(place)),
+            None => Ok(start),
+        }
+    }
+
+    #[tactic(auto, unfolding(wild_plan_spec::specs::Steps::section_loaded))]
+    fn load_section(&mut self, section: usize, start: u64, load: u64) -> Result<(), AllocError>
+        ensures { OnOk result (state_of self.new ≡ section_loaded section start load (state_of self.old)) }
+    {
+        self.addresses.learn_load(section, load)?;
         self.cursor = start;
         Ok(())
     }
+
+    // A section, which starts there, is loaded.
+    #[tactic(auto, unfolding(wild_plan_spec::specs::Steps::section_begun))]
+    fn begin_section(
+        &mut self,
+        ground: &Ground<'_>,
+        place: usize,
+        section: usize,
+        start: u64,
+    ) -> Result<(), Fault>
+        ensures { Moves result self.new (section_begun (shown_ground ground.now) place section start (state_of self.old)) }
+    {
+        let load = self.find_load(ground, place, section, start)?;
+        self.load_section(section, start, load)?;
+        Ok(())
+    }
+
+    #[tactic(auto, unfolding(wild_plan_spec::specs::Steps::section_opened))]
+    fn open_section(
+        &mut self,
+        ground: &Ground<'_>,
+        place: usize,
+        section: usize,
+    ) -> Result<(), Fault>
+        ensures { Moves result self.new (section_opened (shown_ground ground.now) place section (state_of self.old)) }
+    {
+        let start = self.find_start(ground, place, section)?;
+        self.start_section(place, section, start)?;
+        self.begin_section(ground, place, section, start)
+    }
+
+    // ---- in a section
 
     #[tactic(auto, unfolding(wild_plan_spec::specs::Steps::row_placed))]
     fn place_row(&mut self, row: &ChunkRow) -> Result<(), Fault>
@@ -131,22 +221,72 @@ impl Walk {
         }
     }
 
+    // The cursor becomes the address at this place; it must not go back.
+    fn move_cursor(&mut self, place: usize, address: u64) -> Result<(), Fault>
+        ensures { Moves result self.new (cursor_moved place address (state_of self.old)) }
+    {
+        if address < self.cursor {
+            return Err(Fault::MovesBack {
+                statement: place,
+                from: self.cursor,
+                to: address,
+            });
+        }
+        self.locations.push(PlacedLocation {
+            statement: place,
+            address,
+        })?;
+        self.cursor = address;
+        Ok(())
+    }
+
+    #[tactic(auto, unfolding(wild_plan_spec::specs::Steps::cursor_set))]
+    fn set_cursor(
+        &mut self,
+        ground: &Ground<'_>,
+        place: usize,
+        section: usize,
+        expression: &Expression,
+    ) -> Result<(), Fault>
+        ensures { Moves result self.new (cursor_set (shown_ground ground.now) place section expression.now (state_of self.old)) }
+    {
+        let point = location_point(place, Some(section));
+        let address = self.full(ground, place, expression, point)?;
+        self.move_cursor(place, address)
+    }
+
+    // ---- a section ends
+
+    // It ends at the cursor, and so does the counter, unless it floats.
     #[tactic(auto, unfolding(wild_plan_spec::specs::Steps::section_ended))]
-    fn end_section(&mut self, section: usize) -> Result<(), Fault>
-        ensures { Moves result self.new (section_ended section (state_of self.old)) }
+    fn end_section(&mut self, ground: &Ground<'_>, section: usize) -> Result<(), Fault>
+        ensures { Moves result self.new (section_ended (shown_ground ground.now) section (state_of self.old)) }
     {
         self.addresses.learn_end(section, self.cursor)?;
-        self.counter = self.cursor;
+        if !ground.is_floating(section) {
+            self.counter = self.cursor;
+        }
         Ok(())
+    }
+
+    // The earlier section that it must not overlap; a floating one may overlap all.
+    #[tactic(auto, unfolding(wild_plan_spec::specs::Steps::overlapped))]
+    fn overlapped(&self, ground: &Ground<'_>, section: usize) -> Option<usize>
+        ensures { result ≡ overlapped (shown_ground ground.now) section (state_of self.now) }
+    {
+        if ground.is_floating(section) {
+            return None;
+        }
+        let start = self.addresses.start(section);
+        lowest_sharing(ground, &self.addresses, start, self.cursor, section)
     }
 
     #[tactic(auto, unfolding(wild_plan_spec::specs::Steps::section_ended_alone))]
     fn end_section_alone(&mut self, ground: &Ground<'_>, section: usize) -> Result<(), Fault>
         ensures { Moves result self.new (section_ended_alone (shown_ground ground.now) section (state_of self.old)) }
     {
-        let start = self.addresses.start(section);
-        match lowest_sharing(&self.addresses, start, self.cursor, section) {
-            None => self.end_section(section),
+        match self.overlapped(ground, section) {
+            None => self.end_section(ground, section),
             Some(other) => Err(overlap(ground, other, section)?),
         }
     }
@@ -180,24 +320,19 @@ impl Walk {
         }
     }
 
-    // ---- `. =`
+    // ---- places
 
-    #[tactic(auto, unfolding(wild_plan_spec::specs::Steps::location_set))]
-    fn set_location(
+    #[tactic(auto, unfolding(wild_plan_spec::specs::Steps::counter_set))]
+    fn set_counter(
         &mut self,
         ground: &Ground<'_>,
         place: usize,
         expression: &Expression,
     ) -> Result<(), Fault>
-        ensures { Moves result self.new (location_set (shown_ground ground.now) place expression.now (state_of self.old)) }
+        ensures { Moves result self.new (counter_set (shown_ground ground.now) place expression.now (state_of self.old)) }
     {
-        let evaluator = Evaluator {
-            alloc: ground.alloc,
-            scope: &ground.scope,
-            addresses: &self.addresses,
-            statement: place,
-        };
-        let address = evaluator.full(&Path::Start, expression, location_point(place))?;
+        let point = location_point(place, None);
+        let address = self.full(ground, place, expression, point)?;
         self.locations.push(PlacedLocation {
             statement: place,
             address,
@@ -206,18 +341,20 @@ impl Walk {
         Ok(())
     }
 
-    // ---- places
-
     // `.` of a place: in the contents of a section its cursor, else the location counter.
     fn dot_before(&self, place: &Place<'_>) -> u64
         ensures { result ≡ dot_before (shown_place place.now) (state_of self.now) }
     {
         match *place {
-            Place::Collect(Some(_), _) | Place::Rows(_) | Place::Close(_, _) => self.cursor,
-            Place::Collect(None, _)
-            | Place::SetLocation(_)
-            | Place::Wait(_, _)
+            Place::SetLocation(Some(_), _)
+            | Place::Wait(Where::Inside(_), _)
+            | Place::Collect(Some(_), _)
+            | Place::Rows(_)
+            | Place::Close(_, _) => self.cursor,
+            Place::SetLocation(None, _)
+            | Place::Wait(Where::Outermost | Where::Between, _)
             | Place::Open(_, _)
+            | Place::Collect(None, _)
             | Place::Discard(_)
             | Place::Idle
             | Place::Unbuilt => self.counter,
@@ -243,8 +380,11 @@ impl Walk {
         ensures { Moves result self.new (effect (shown_ground ground.now) number (shown_place place.now) (state_of self.old)) }
     {
         match *place {
-            Place::SetLocation(expression) => self.set_location(ground, number, expression),
-            Place::Open(section, _) => self.open_section(ground, section),
+            Place::SetLocation(None, expression) => self.set_counter(ground, number, expression),
+            Place::SetLocation(Some(section), expression) => {
+                self.set_cursor(ground, number, section, expression)
+            }
+            Place::Open(section, _) => self.open_section(ground, number, section),
             Place::Collect(chunk, _) => self.collect_chunk(ground, chunk),
             Place::Rows(chunk) => self.place_chunk(ground.chunks.rows(chunk)),
             Place::Close(section, rest) => self.close_section(ground, section, rest),
