@@ -24,4 +24,6 @@ mod pattern_tests;
 #[cfg(test)]
 mod plan_tests;
 #[cfg(test)]
+mod section_tests;
+#[cfg(test)]
 mod tests;

@@ -211,7 +211,7 @@ fn bad_file_patterns(rt: HostRuntime) -> Result<(), Fail> {
 
 #[test]
 fn order_of_faults(rt: HostRuntime) -> Result<(), Fail> {
-    let cases: [Case<'_>; 5] = [
+    let cases: [Case<'_>; 4] = [
         (
             "a pattern, then a counter",
             b"SECTIONS { .a : { *(**) } . = SIZEOF_HEADERS; }",
@@ -235,12 +235,6 @@ fn order_of_faults(rt: HostRuntime) -> Result<(), Fail> {
             b"SECTIONS { .a : { *(**) } }",
             b"section,f.o,.a,1,3,A\n",
             b"fault 5 BadRow row=0\n",
-        ),
-        (
-            "a row of zeros, then a section of one name",
-            b"SECTIONS { /DISCARD/ : { *(.a) } /DISCARD/ : { } .b : { } }",
-            b"section,f.o,.a,1,1,T\nsection,f.o,.b,1,1,AB\n",
-            b"fault 38 Unsupported index=1\n",
         ),
     ];
     assert_faults(&rt, rt.alloc(), &cases)?;

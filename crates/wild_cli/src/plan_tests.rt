@@ -29,7 +29,7 @@ fn plans(rt: HostRuntime) -> Result<(), Fail> {
 
 #[test]
 fn faults(rt: HostRuntime) -> Result<(), Fail> {
-    let cases: [Case<'_>; 5] = [
+    let cases: [Case<'_>; 4] = [
         ("no tree", b"SECTIONS", b"", b"fault 1 Syntax position=8\n"),
         (
             "two sections of one name",
@@ -48,12 +48,6 @@ fn faults(rt: HostRuntime) -> Result<(), Fail> {
             b"SECTIONS { .a : { *(.a) } }",
             b"section,f.o,.a,18446744073709551615,2,A\n",
             b"fault 35 AlignOverflow value=18446744073709551615 align=2\n",
-        ),
-        (
-            "an orphan of zeros",
-            b"SECTIONS { .a : { *(.a) } }",
-            b"section,f.o,.z,1,1,AE\nsection,f.o,.z,1,1,AB\n",
-            b"fault 38 Unsupported index=1\n",
         ),
     ];
     assert_faults(&rt, rt.alloc(), &cases)?;
@@ -160,32 +154,6 @@ fn counters_without_value(rt: HostRuntime) -> Result<(), Fail> {
     Ok(())
 }
 
-#[test]
-fn counters_that_are_not_built(rt: HostRuntime) -> Result<(), Fail> {
-    let cases: [Case<'_>; 3] = [
-        (
-            "a symbol, before two sections of one name",
-            b"SECTIONS { .a : { } . = x; .a : { } }",
-            b"",
-            b"fault 38 Unsupported index=2\n",
-        ),
-        (
-            "a symbol that asks for no address",
-            b"SECTIONS { . = base; .a : { *(.a) } } base = . + 0x4000;",
-            b"section,f.o,.a,1,1,A\n",
-            b"fault 38 Unsupported index=0\n",
-        ),
-        (
-            "the size of a section",
-            b"SECTIONS { . = 1 ? 2 : SIZEOF(.a); }",
-            b"",
-            b"fault 38 Unsupported index=0\n",
-        ),
-    ];
-    assert_faults(&rt, rt.alloc(), &cases)?;
-    Ok(())
-}
-
 const IDLE: &[u8] = b"section .a 0x0000000000000010 0x0000000000000010 0x0000000000000001 1 A - - -
 input 0 0x0000000000000010 .a f.o .a
 location 6 0x0000000000000010
@@ -224,7 +192,7 @@ fn statements_after_them(rt: HostRuntime) -> Result<(), Fail> {
         ),
         (
             "a counter that is not built",
-            b"VERSION { V { local: *; }; } SECTIONS { .a : { } . = x; }",
+            b"VERSION { V { local: *; }; } SECTIONS { .a : { } . = ORIGIN(r); }",
             b"",
             b"fault 38 Unsupported index=3\n",
         ),
@@ -253,70 +221,6 @@ fn commands_that_are_not_built(rt: HostRuntime) -> Result<(), Fail> {
             b"OUTPUT_FORMAT(elf64-x86-64) SECTIONS { . = x; }",
             b"",
             b"fault 38 Unsupported index=0\n",
-        ),
-    ];
-    assert_faults(&rt, rt.alloc(), &cases)?;
-    Ok(())
-}
-
-#[test]
-fn sections_that_are_not_built(rt: HostRuntime) -> Result<(), Fail> {
-    let cases: [Case<'_>; 4] = [
-        (
-            "with an alignment",
-            b"SECTIONS { .a : { } .b : ALIGN(8) { *(.b) } }",
-            b"",
-            b"fault 38 Unsupported index=2\n",
-        ),
-        (
-            "with an address, which is discarded",
-            b"SECTIONS { /DISCARD/ 0x10 : { *(.b) } }",
-            b"",
-            b"fault 38 Unsupported index=0\n",
-        ),
-        (
-            "without a name",
-            b"SECTIONS { .a : { } \"\" : { *(.b) } }",
-            b"",
-            b"fault 38 Unsupported index=2\n",
-        ),
-        (
-            "with a second name, before that",
-            b"SECTIONS { .a : { } .a : ALIGN(8) { } }",
-            b"",
-            b"fault 38 Unsupported index=2\n",
-        ),
-    ];
-    assert_faults(&rt, rt.alloc(), &cases)?;
-    Ok(())
-}
-
-#[test]
-fn contents_that_are_not_built(rt: HostRuntime) -> Result<(), Fail> {
-    let cases: [Case<'_>; 4] = [
-        (
-            "a symbol",
-            b"SECTIONS { .a : { *(.a) x = 1; *(.b) } }",
-            b"",
-            b"fault 38 Unsupported index=2\n",
-        ),
-        (
-            "a condition, which is discarded",
-            b"SECTIONS { /DISCARD/ : { ASSERT(1, m) } }",
-            b"",
-            b"fault 38 Unsupported index=1\n",
-        ),
-        (
-            "a counter after a pattern without a reading",
-            b"SECTIONS { .a : { *(**) . = 1; } }",
-            b"",
-            b"fault 8 BadPattern statement=1 name=**\n",
-        ),
-        (
-            "a counter before one",
-            b"SECTIONS { .a : { . = 1; *(**) } }",
-            b"",
-            b"fault 38 Unsupported index=1\n",
         ),
     ];
     assert_faults(&rt, rt.alloc(), &cases)?;
