@@ -22,20 +22,20 @@ of_names t = name_checks DuplicateSection [] (names_of (sections_of t))
 pub returns-in_err-rules-clause-passes : goal.returns-in_err-rules-clause-passes
 returns-in_err-rules-clause-passes c =
     let t = c.args.commands.now in
-    let places = ap shown_places c.as_slice.ensures ∙ c.in_ok-sections.ensures.places in
+    let places = ap shown_places c.as_slice.ensures ∙ c.in_ok-parts.ensures.places in
     exits _ _ c.from_residual-in_err-rules.ensures.1 (wanted_before (of_places t) (of_names t) _ (rw places at c.in_err-rules.ensures.passes.err))
 
 pub returns-in_err-own-clause-passes : goal.returns-in_err-own-clause-passes
 returns-in_err-own-clause-passes c =
     let t = c.args.commands.now in
-    let places = ap shown_places c.as_slice.ensures ∙ c.in_ok-sections.ensures.places in
-    let sections = ap targets c.as_slice-2.ensures ∙ c.in_ok-sections.ensures.sections in
+    let places = ap shown_places c.as_slice.ensures ∙ c.in_ok-parts.ensures.places in
+    let sections = ap targets c.as_slice-2.ensures ∙ c.in_ok-parts.ensures.sections in
     exits _ _ c.from_residual-in_err-own.ensures.1 (wanted_after (of_places t) (of_names t) _ (rw places at c.in_ok-rules.ensures.passes.ok) (rw sections at c.in_err-own.ensures.passes.err))
 
 pub returns-clause-fates : goal.returns-clause-fates
 returns-clause-fates c =
-    let places = ap shown_places c.as_slice.ensures ∙ c.in_ok-sections.ensures.places in
-    let sections = ap targets c.as_slice-2.ensures ∙ c.in_ok-sections.ensures.sections in
+    let places = ap shown_places c.as_slice.ensures ∙ c.in_ok-parts.ensures.places in
+    let sections = ap targets c.as_slice-2.ensures ∙ c.in_ok-parts.ensures.sections in
     let own = c.in_ok-own.ensures.names ∙ ap names_of sections in
     let rules = c.in_ok-rules.ensures.rules ∙ ap rules_in places in
-    are_fates c.args.commands.now c.args.inputs.now _ _ _ _ c.in_ok-fates.fates c.in_ok-fates.ensures c.in_ok-sections.ensures.places rules own c.as_slice-3.ensures
+    are_fates c.args.commands.now c.args.inputs.now _ _ _ _ c.in_ok-fates.fates c.in_ok-fates.ensures c.in_ok-parts.ensures rules own c.as_slice-3.ensures
