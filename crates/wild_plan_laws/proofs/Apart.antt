@@ -1,5 +1,5 @@
 -- Sections and rows lie apart from each other, and all that may be asked is known.
-use Rattle.std.proofs.Common.{◌≡◌, ◌∙◌, ℕ, ◌+◌, ◌<◌, List, length, Option, Some, Ok, sym, ap, subst, ⊎_elim, arith}
+use Rattle.std.proofs.Common.{◌≡◌, ◌∙◌, ℕ, ◌+◌, ◌<◌, List, length, Some, Ok, sym, ap, subst, ⊎_elim, arith}
 use Rattle.std.specs.Prelude.{slice_get}
 use Rattle.std.proofs.lemmas.Bool.{cases_lt}
 use Rattle.std.proofs.lemmas.Option.{slice_get_within}
@@ -21,7 +21,7 @@ use Rattle.wild_walk_laws.proofs.Kept.{kept_rows_have_addresses}
 use Rattle.wild_walk_laws.proofs.Numbered.{made_of}
 use Rattle.wild_walk_laws.proofs.Said.{fates, names, facts, facts_named, facts_are, said}
 use Rattle.wild_walk_laws.proofs.Walked.{laid_walked}
-use Rattle.wild_plan_laws.specs.Holding.{AllIsKnown, AreCountedApart, IsCounted, LaidSectionStands, LiesIn, RowHolds, SectionHolds}
+use Rattle.wild_plan_laws.specs.Holding.{AllIsKnown, AreOneOrCounted, IsCounted, LaidSectionStands, LiesIn, RowHolds, SectionHolds}
 use Rattle.wild_plan_laws.proofs.Laid.{GoesTo, goes_to, goes_to_one, After, Stands, nothing_after, stands_passes}
 
 module _ (c : Case) (state : State) (f : IsLaid c state) where
@@ -76,7 +76,7 @@ module _ (c : Case) (state : State) (f : IsLaid c state) where
       let lies = rows_lie_in_sections r h.row k h.there fate h.address h.placed in
       record { start = lies.start; end = lies.end; spans = lies.spans; from = omega arith; to = omega arith }
 
-  pub rows_do_not_overlap : (p r : ℕ) (k l : Kept) → slice_get (fates c) p ≡ Some (Some k) → slice_get (fates c) r ≡ Some (Some l) → AreCountedApart c k.chunk.«section» l.chunk.«section»
+  pub rows_do_not_overlap : (p r : ℕ) (k l : Kept) → slice_get (fates c) p ≡ Some (Some k) → slice_get (fates c) r ≡ Some (Some l) → AreOneOrCounted c k.chunk.«section» l.chunk.«section»
       → (x : ℕ) → RowHolds c.inputs.rows state.known p x → RowHolds c.inputs.rows state.known r x → p ≡ r
   rows_do_not_overlap p r k l fate other_fate apart x one other =
       let s = k.chunk.«section» in

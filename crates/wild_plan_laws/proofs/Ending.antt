@@ -5,7 +5,7 @@ use Rattle.wild_numbering.specs.Numbering.{is_named, number_of}
 use Rattle.wild_names.specs.declared.fault.Fault.{Fault}
 use Rattle.wild_names.specs.declared.fault.Fault.TheVariants.{NotLaidOut}
 use Rattle.wild_expression_tree.specs.declared.tree.Expression.{Expression}
-use Rattle.wild_value_spec.specs.Known.{Known, Start, Address, Dot}
+use Rattle.wild_value_spec.specs.Known.{Known, Start, Address}
 use Rattle.wild_value_spec.specs.Marks.{max_height}
 use Rattle.wild_value_spec.specs.Scope.{Definition, OfRow, OfScript, Scope, definition_at, definition_of}
 use Rattle.wild_plan_spec.specs.declared.chunk.Kept.{Kept}

@@ -25,7 +25,7 @@ use Rattle.wild_walk_laws.proofs.Numbered.{each_at, made_of}
 use Rattle.wild_walk_laws.proofs.Said.{fates, facts, said, sections_are, section_there}
 use Rattle.wild_walk_laws.proofs.Standing.{rows_stand_in_place}
 use Rattle.wild_plan_laws.specs.Holding as holding
-use Rattle.wild_plan_laws.specs.Listing.{AreListedApart, Covers, IsListedCounted, Lists, RowStands, SectionStands, SymbolStands}
+use Rattle.wild_plan_laws.specs.Listing.{AreOneOrListedCounted, Covers, IsListedCounted, Lists, RowStands, SectionStands, SymbolStands}
 use Rattle.wild_plan_laws.proofs.Apart.{sections_stand, rows_lie_in_sections, starts_below, sections_do_not_overlap, rows_do_not_overlap}
 
 -- ---- symbols of the table
@@ -209,11 +209,11 @@ module _ (c : Case) (plan : Layout) (f : Fits c plan) where
   listed_counts s h = counted_is c f.state f.laid s h.place (place_there s h.place h.there) h.counted
 
   -- the sections of two rows, where they are listed so
-  kept_apart : (s u v w : ℕ) → v ≡ s → w ≡ u → AreListedApart plan s u → holding.AreCountedApart c v w
+  kept_apart : (s u v w : ℕ) → v ≡ s → w ≡ u → AreOneOrListedCounted plan s u → holding.AreOneOrCounted c v w
   kept_apart s u v w first second (inl same) = inl (first ∙ same ∙ sym second)
   kept_apart s u v w first second (inr both) = inr (subst (holding.IsCounted c) (sym first) (listed_counts s both.0), subst (holding.IsCounted c) (sym second) (listed_counts u both.1))
 
-  pub listed_rows_do_not_overlap : (p r s u a b : ℕ) (one other : InputRow) → Lists c.inputs plan p s a one → Lists c.inputs plan r u b other → AreListedApart plan s u
+  pub listed_rows_do_not_overlap : (p r s u a b : ℕ) (one other : InputRow) → Lists c.inputs plan p s a one → Lists c.inputs plan r u b other → AreOneOrListedCounted plan s u
       → (x : ℕ) → Covers a one.size x → Covers b other.size x → p ≡ r
   listed_rows_do_not_overlap p r s u a b one other l m apart x h g =
       let first = row_there p s a one l in

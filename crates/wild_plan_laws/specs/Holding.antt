@@ -62,8 +62,8 @@ abbrev pub IsCounted : Case → ℕ → Type 0
 IsCounted c s = (facts_at (facts_of c.commands c.inputs) s).floating ≡ false
 
 -- one section, or two that are counted
-abbrev pub AreCountedApart : Case → ℕ → ℕ → Type 0
-AreCountedApart c s u = (s ≡ u) ⊎ (IsCounted c s × IsCounted c u)
+abbrev pub AreOneOrCounted : Case → ℕ → ℕ → Type 0
+AreOneOrCounted c s u = (s ≡ u) ⊎ (IsCounted c s × IsCounted c u)
 
 -- the address x is one of section s
 pub record SectionHolds (known : Known) (s x : ℕ) : Type 0 where

@@ -26,8 +26,8 @@ pub record IsListedCounted (plan : Layout) (s : ℕ) : Type 0 where
   pub counted : place.counted ≡ true
 
 -- one section, or two that are counted
-abbrev pub AreListedApart : Layout → ℕ → ℕ → Type 0
-AreListedApart plan s u = (s ≡ u) ⊎ (IsListedCounted plan s × IsListedCounted plan u)
+abbrev pub AreOneOrListedCounted : Layout → ℕ → ℕ → Type 0
+AreOneOrListedCounted plan s u = (s ≡ u) ⊎ (IsListedCounted plan s × IsListedCounted plan u)
 
 -- what starts at one address and has this size covers the address x
 abbrev pub Covers : ℕ → ℕ → ℕ → Type 0

@@ -2,7 +2,7 @@
 
 ghost use Rattle.std.specs.Prelude.{◌≡◌, ℕ, Bool, Some, slice_get};
 ghost use Rattle.wild_names.specs.declared.fault.Fault.TheVariants.{NotLaidOut};
-ghost use Rattle.wild_plan_laws.specs.Holding.{AllIsKnown, AreCountedApart, IsCounted, LaidSectionStands, LiesIn, RowHolds, SectionHolds};
+ghost use Rattle.wild_plan_laws.specs.Holding.{AllIsKnown, AreOneOrCounted, IsCounted, LaidSectionStands, LiesIn, RowHolds, SectionHolds};
 ghost use Rattle.wild_plan_laws.specs.Sharing.{SharingIsLowest};
 ghost use Rattle.wild_plan_spec.specs.declared.chunk.Kept.{Kept};
 ghost use Rattle.wild_plan_spec.specs.declared.row.InputRow.{InputRow};
@@ -47,7 +47,7 @@ pub fn sections_do_not_overlap()
 pub fn rows_do_not_overlap()
     ensures { (c : Case) (state : State) → IsLaid c state
         → (p r : ℕ) (k l : Kept) → slice_get (fates_of c.commands c.inputs) p ≡ Some (Some k) → slice_get (fates_of c.commands c.inputs) r ≡ Some (Some l)
-        → AreCountedApart c k.chunk.section l.chunk.section
+        → AreOneOrCounted c k.chunk.section l.chunk.section
         → (x : ℕ) → RowHolds c.inputs.rows state.known p x → RowHolds c.inputs.rows state.known r x → p ≡ r }
 {}
 

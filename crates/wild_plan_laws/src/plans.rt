@@ -1,7 +1,7 @@
 //! Laws about what a plan lists: its sections, rows and symbols of the table.
 
 ghost use Rattle.std.specs.Prelude.{◌≡◌, ℕ, true, Some, slice_get};
-ghost use Rattle.wild_plan_laws.specs.Listing.{AreListedApart, Covers, Lists, RowStands, SectionStands, SymbolStands};
+ghost use Rattle.wild_plan_laws.specs.Listing.{AreOneOrListedCounted, Covers, Lists, RowStands, SectionStands, SymbolStands};
 ghost use Rattle.wild_plan_spec.specs.declared.placed.PlacedSection.{PlacedSection};
 ghost use Rattle.wild_plan_spec.specs.declared.row.InputRow.{InputRow};
 ghost use Rattle.wild_plan_spec.specs.declared.row.SymbolRow.{SymbolRow};
@@ -45,6 +45,6 @@ pub fn listed_sections_do_not_overlap()
 /// No address is one of two rows of a plan that fits, where they lie in one section, or in two that are counted.
 pub fn listed_rows_do_not_overlap()
     ensures { (c : Case) (plan : Layout) → Fits c plan
-        → (p r s u a b : ℕ) (one other : InputRow) → Lists c.inputs plan p s a one → Lists c.inputs plan r u b other → AreListedApart plan s u
+        → (p r s u a b : ℕ) (one other : InputRow) → Lists c.inputs plan p s a one → Lists c.inputs plan r u b other → AreOneOrListedCounted plan s u
         → (x : ℕ) → Covers a one.size x → Covers b other.size x → p ≡ r }
 {}

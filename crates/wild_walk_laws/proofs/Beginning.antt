@@ -4,14 +4,14 @@ use Rattle.std.specs.Prelude.{slice_get}
 use Rattle.std.proofs.lemmas.Option.{slice_get_within}
 use Rattle.wild_expression_tree.specs.declared.tree.Expression.{Expression}
 use Rattle.wild_script_tree.specs.declared.tree.Section.{Section}
-use Rattle.wild_value_spec.specs.Known.{IsPart, Start, Load, Dot}
+use Rattle.wild_value_spec.specs.Known.{Start, Load, Dot}
 use Rattle.wild_value_spec.specs.Value.{full_value}
 use Rattle.wild_plan_spec.specs.Case.{Case}
 use Rattle.wild_plan_spec.specs.Facts.{Facts, facts_at, facts_of}
 use Rattle.wild_plan_spec.specs.Fit.{IsLaid}
 use Rattle.wild_plan_spec.specs.Ground.{Ground, ground_of}
 use Rattle.wild_plan_spec.specs.Orphans.{places_of}
-use Rattle.wild_plan_spec.specs.Places.{Place, Open}
+use Rattle.wild_plan_spec.specs.Places.{Open}
 use Rattle.wild_plan_spec.specs.Points.{start_point, load_point}
 use Rattle.wild_plan_spec.specs.Scopes.{scope_of}
 use Rattle.wild_plan_spec.specs.Steps.{State, dot_before, dot_noted, effect, step}

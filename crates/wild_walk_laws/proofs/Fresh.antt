@@ -8,7 +8,7 @@ use Rattle.wild_plan_spec.specs.Places.{Place}
 use Rattle.wild_plan_spec.specs.Steps.{State, row_placed, chunk_placed}
 use Rattle.wild_walk_laws.specs.Nesting.{Zone, Free, Inside}
 use Rattle.wild_walk_laws.proofs.Entries.{new_entry, other_entry}
-use Rattle.wild_walk_laws.proofs.Steps.{started_at, opened_at, row_at, by_row, by_rows, by_chunk}
+use Rattle.wild_walk_laws.proofs.Steps.{started_at, opened_at, by_row, by_rows, by_chunk}
 use Rattle.wild_walk_laws.proofs.Walked.{Passes}
 
 -- when it becomes known: where its section begins or ends; nothing waits for the rest

@@ -34,7 +34,7 @@ use Rattle.wild_walk_laws.proofs.Steps.{started_at, opened_at, counter_at, curso
 
 -- ---- what grows
 
-abbrev IsPrefix : List PlacedLocation → List PlacedLocation → Type 0
+abbrev pub IsPrefix : List PlacedLocation → List PlacedLocation → Type 0
 IsPrefix xs ys = (zs : List PlacedLocation) × (ys ≡ xs ++ zs)
 
 -- the second state knows and lists all that the first one does
