@@ -19,7 +19,7 @@ use Rattle.wild_walk_laws.proofs.Entries.{not_both}
 use Rattle.wild_walk_laws.proofs.Growing.{dot_known, load_dot_known, to_end}
 use Rattle.wild_walk_laws.proofs.Kept.{kept_rows_have_addresses}
 use Rattle.wild_walk_laws.proofs.Numbered.{made_of}
-use Rattle.wild_walk_laws.proofs.Said.{fates, names, facts, facts_named, facts_are, said}
+use Rattle.wild_walk_laws.proofs.SectionFacts.{fates, names, facts, facts_named, facts_are, facts_is}
 use Rattle.wild_walk_laws.proofs.Walked.{laid_walked}
 use Rattle.wild_plan_laws.specs.Holding.{AllIsKnown, AreOneOrCounted, IsCounted, LaidSectionStands, LiesIn, RowHolds, SectionHolds}
 use Rattle.wild_plan_laws.proofs.Laid.{GoesTo, goes_to, goes_to_one, After, Stands, nothing_after, stands_passes}
@@ -41,7 +41,7 @@ module _ (c : Case) (state : State) (f : IsLaid c state) where
   pub sections_stand : (s : ℕ) (g : Facts) → slice_get (facts c) s ≡ Some g → LaidSectionStands places state s g
   sections_stand s g there =
       let named = made_of (facts_named c s) (slice_get (names c) s) g (sym (facts_are c s) ∙ there) in
-      subst (LaidSectionStands places state s) (said c s g there) (all_after.sections.stand s (slice_get_within (names c) s named.0 named.1))
+      subst (LaidSectionStands places state s) (facts_is c s g there) (all_after.sections.stand s (slice_get_within (names c) s named.0 named.1))
 
   -- the section that a row with an address lies in
   record Within (r a : ℕ) (row : InputRow) : Type 0 where

@@ -22,7 +22,7 @@ use Rattle.wild_walk_laws.proofs.Entries.{known_number}
 use Rattle.wild_walk_laws.proofs.Having.{IsAmong, has_before, has_after, has_there}
 use Rattle.wild_walk_laws.proofs.Kept.{kept_rows_have_addresses}
 use Rattle.wild_walk_laws.proofs.Numbered.{each_at, made_of}
-use Rattle.wild_walk_laws.proofs.Said.{fates, facts, said, sections_are, section_there}
+use Rattle.wild_walk_laws.proofs.SectionFacts.{fates, facts, facts_is, sections_are, section_there}
 use Rattle.wild_walk_laws.proofs.Standing.{rows_stand_in_place}
 use Rattle.wild_plan_laws.specs.Holding as holding
 use Rattle.wild_plan_laws.specs.Listing.{AreOneOrListedCounted, Covers, IsListedCounted, Lists, RowStands, SectionStands, SymbolStands}
@@ -78,20 +78,20 @@ module _ (c : Case) (state : State) (f : IsLaid c state) where
 
   -- what is said of a section that is listed
   record IsSaid (s : ℕ) (place : PlacedSection) : Type 0 where
-    said : Facts
-    there : slice_get (facts c) s ≡ Some said
-    is : IsPlace s said place
+    facts_said : Facts
+    there : slice_get (facts c) s ≡ Some facts_said
+    is : IsPlace s facts_said place
 
   listed_is : (s : ℕ) (place : PlacedSection) → slice_get sections s ≡ Some place → IsSaid s place
   listed_is s place there =
       let made = made_of (placed_section state.known s) (slice_get (facts c) s) place (sym (sections_are c state.known s) ∙ there) in
-      record { said = made.0; there = made.1; is = subst (IsPlace s made.0) made.2 (placed_is s made.0 made.1) }
+      record { facts_said = made.0; there = made.1; is = subst (IsPlace s made.0) made.2 (placed_is s made.0 made.1) }
 
   section_stands : (s : ℕ) (g : Facts) (place : PlacedSection) → slice_get (facts c) s ≡ Some g → slice_get sections s ≡ Some place → (plan : Layout) → plan.locations ≡ state.locations → SectionStands c plan s g place
   section_stands s g place said there plan same =
       let found = listed_is s place there in
-      let both : Some found.said ≡ Some g = sym found.there ∙ said in
-      let alike : found.said ≡ g = cc in
+      let both : Some found.facts_said ≡ Some g = sym found.there ∙ said in
+      let alike : found.facts_said ≡ g = cc in
       let is = subst (λ (h : Facts). IsPlace s h place) alike found.is in
       let start = is.start in
       let size = is.size in
@@ -123,8 +123,8 @@ module _ (c : Case) (state : State) (f : IsLaid c state) where
   counted_is : (s : ℕ) (place : PlacedSection) → slice_get sections s ≡ Some place → place.counted ≡ true → holding.IsCounted c s
   counted_is s place there counts =
       let found = listed_is s place there in
-      let same = said c s found.said found.there in
-      ap (λ (g : Facts). g.floating) same ∙ counted_by found.said.floating (sym (ap (λ (p : PlacedSection). p.counted) found.is.place_is) ∙ counts)
+      let same = facts_is c s found.facts_said found.there in
+      ap (λ (g : Facts). g.floating) same ∙ counted_by found.facts_said.floating (sym (ap (λ (p : PlacedSection). p.counted) found.is.place_is) ∙ counts)
 
   -- ---- rows
 

@@ -36,7 +36,7 @@ module _ (floating : ℕ → Bool) (known : Known) (start end : ℕ) where
         first = h.first;
       }
 
-  one_more : (n : ℕ) (o : Option ℕ) (b : Bool) → shares floating known start end n ≡ b → Found n o → Found (suc n) (lower_section floating known o (cond b (Some n) None))
+  one_more : (n : ℕ) (o : Option ℕ) (b : Bool) → shares floating known start end n ≡ b → Found n o → Found (suc n) (lower_section known o (cond b (Some n) None))
   one_more n None false e h = λ u low. up_to n u (λ v. shares floating known start end v ≡ false) (omega (arith, low)) (λ before. h u before) e
   one_more n None true e h = record {
     below = omega arith;

@@ -9,7 +9,7 @@ pub mod Chunked
 pub mod Standing
 pub mod Offsets
 pub mod Numbered
-pub mod Said
+pub mod SectionFacts
 pub mod Kept
 pub mod Beginning
 pub mod Settled

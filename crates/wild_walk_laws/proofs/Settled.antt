@@ -33,7 +33,7 @@ use Rattle.wild_walk_laws.proofs.Beginning.{sections_begin}
 use Rattle.wild_walk_laws.proofs.Entries.{known_number}
 use Rattle.wild_walk_laws.proofs.Growing.{locations_hold}
 use Rattle.wild_walk_laws.proofs.Nesting.{opened_below}
-use Rattle.wild_walk_laws.proofs.Said.{section_there}
+use Rattle.wild_walk_laws.proofs.SectionFacts.{section_there}
 use Rattle.wild_walk_laws.proofs.Steps.{bind_ok}
 
 -- ---- lists

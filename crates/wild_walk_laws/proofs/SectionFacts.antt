@@ -1,5 +1,5 @@
 -- What is said of each section, and what is listed of it, by its number.
-use Rattle.std.proofs.Common.{◌≡◌, ◌∙◌, ℕ, ◌<◌, List, [], length, get_or, Option, Some, refl, ap, sym}
+use Rattle.std.proofs.Common.{◌≡◌, ◌∙◌, ℕ, ◌<◌, List, [], length, get_or, Option, Some, None, refl, ap, sym}
 use Rattle.std.specs.Prelude.{slice_get}
 use Rattle.std.specs.Option.{option_map, unwrap_or}
 use Rattle.std.proofs.lemmas.Option.{slice_get-get_or}
@@ -7,15 +7,15 @@ use Rattle.wild_value_spec.specs.Known.{Known}
 use Rattle.wild_plan_spec.specs.declared.chunk.Kept.{Kept}
 use Rattle.wild_plan_spec.specs.Case.{Case}
 use Rattle.wild_plan_spec.specs.Chunks.{section_rows}
-use Rattle.wild_plan_spec.specs.Facts.{Facts, section_facts, facts_from, facts_of, facts_at, orphan_facts}
+use Rattle.wild_plan_spec.specs.Facts.{Facts, section_facts, facts_from, facts_of, facts_at}
 use Rattle.wild_plan_spec.specs.Fates.{fates_of, section_names}
 use Rattle.wild_plan_spec.specs.Layout.{placed_section, placed_sections}
 use Rattle.wild_plan_spec.specs.Names.{Name}
 use Rattle.wild_plan_spec.specs.Statements.{sections_of}
 use Rattle.wild_walk_laws.proofs.Numbered.{each_at}
 
-said_by : (o : Option Facts) (f : Facts) → o ≡ Some f → unwrap_or o (orphan_facts [] []) ≡ f
-said_by o f e = rw e refl
+is_by : (o : Option Facts) (f : Facts) → o ≡ Some f → unwrap_or o (section_facts [] None []) ≡ f
+is_by o f e = rw e refl
 
 module _ (c : Case) where
   abbrev pub fates : List (Option Kept)
@@ -34,14 +34,14 @@ module _ (c : Case) where
   pub facts_are : (s : ℕ) → slice_get facts s ≡ option_map (facts_named s) (slice_get names s)
   facts_are s = each_at facts_named (λ n xs. facts_from (sections_of c.commands) c.inputs.rows fates n xs) (λ n. refl) (λ n x xs. refl) names s
 
-  pub said : (s : ℕ) (f : Facts) → slice_get facts s ≡ Some f → facts_at facts s ≡ f
-  said s f there = said_by (slice_get facts s) f there
+  pub facts_is : (s : ℕ) (f : Facts) → slice_get facts s ≡ Some f → facts_at facts s ≡ f
+  facts_is s f there = is_by (slice_get facts s) f there
 
   -- something is said of each section
   pub facts_there : (s : ℕ) → s < length names → slice_get facts s ≡ Some (facts_at facts s)
   facts_there s low =
       let there = facts_are s ∙ ap (option_map (facts_named s)) (slice_get-get_or names s [] low) in
-      there ∙ ap Some (sym (said s (facts_named s (get_or names s [])) there))
+      there ∙ ap Some (sym (facts_is s (facts_named s (get_or names s [])) there))
 
   pub sections_are : (known : Known) (s : ℕ) → slice_get (placed_sections known 0 facts) s ≡ option_map (placed_section known s) (slice_get facts s)
   sections_are known s = each_at (λ n f. placed_section known n f) (λ n fs. placed_sections known n fs) (λ n. refl) (λ n f fs. refl) facts s
