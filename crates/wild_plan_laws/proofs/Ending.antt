@@ -5,13 +5,13 @@ use Rattle.wild_numbering.specs.Numbering.{is_named, number_of}
 use Rattle.wild_names.specs.declared.fault.Fault.{Fault}
 use Rattle.wild_names.specs.declared.fault.Fault.TheVariants.{NotLaidOut}
 use Rattle.wild_expression_tree.specs.declared.tree.Expression.{Expression}
-use Rattle.wild_value_spec.specs.Known.{Known, Start, Address, Dot}
+use Rattle.wild_value_spec.specs.Known.{Known, Start, Address}
 use Rattle.wild_value_spec.specs.Marks.{max_height}
 use Rattle.wild_value_spec.specs.Scope.{Definition, OfRow, OfScript, Scope, definition_at, definition_of}
 use Rattle.wild_plan_spec.specs.declared.chunk.Kept.{Kept}
 use Rattle.wild_plan_spec.specs.declared.placed.PlacedSymbol.{PlacedSymbol}
 use Rattle.wild_plan_spec.specs.declared.place.Where.{Where}
-use Rattle.wild_plan_spec.specs.declared.place.Where.TheVariants.{Outermost, Between}
+use Rattle.wild_plan_spec.specs.declared.place.Where.TheVariants.{Outermost, Between, Inside}
 use Rattle.wild_plan_spec.specs.declared.row.SymbolRow.{SymbolRow}
 use Rattle.wild_plan_spec.specs.Case.{Case}
 use Rattle.wild_plan_spec.specs.Conditions.{task_holds, place_holds, conditions}
@@ -20,32 +20,34 @@ use Rattle.wild_plan_spec.specs.Fates.{fates_of, section_names}
 use Rattle.wild_plan_spec.specs.Fit.{IsLaid, EndFault}
 use Rattle.wild_plan_spec.specs.Names.{Name}
 use Rattle.wild_plan_spec.specs.Orphans.{places_of}
-use Rattle.wild_plan_spec.specs.Places.{Place, Wait, Assign, Provide, Locate, Check}
+use Rattle.wild_plan_spec.specs.Places.{Task, Place, Wait, Assign, Provide, Locate, Check}
 use Rattle.wild_plan_spec.specs.Points.{task_point}
 use Rattle.wild_plan_spec.specs.Scopes.{entries_of, scope_of}
 use Rattle.wild_plan_spec.specs.Steps.{State}
 use Rattle.wild_plan_spec.specs.Symbols.{is_at, unlisted, listed_symbol, assignment_symbol, task_symbol, place_symbol, symbols}
 use Rattle.wild_walk_laws.specs.Holding.{IsKnown}
 use Rattle.wild_walk_laws.proofs.Having.{Has, has_either}
+use Rattle.wild_walk_laws.proofs.Nesting.{held_below}
 use Rattle.wild_plan_laws.proofs.Apart.{all_is_known, rows_lie_in_sections}
 use Rattle.wild_walk_laws.proofs.Kept.{kept_lays}
 use Rattle.wild_walk_laws.proofs.Numbered.{position_within}
 use Rattle.wild_plan_laws.proofs.Timely.{IsTimely, on, choose, IsPointKnown, IsDefinitionKnown, IsScopeKnown, full_timely, assert_timely}
 
 module _ (known : Known) where
-  -- the location counters of the places of a list are known, of which the first has the number i
-  abbrev AreDotsKnown : ℕ → List Place → Type 0
-  AreDotsKnown i ps = (j : ℕ) (p : Place) → slice_get ps j ≡ Some p → IsKnown known (Dot (i + j))
+  -- what a task at place i may ask of its place is known
+  abbrev IsTaskKnown : ℕ → Place → Type 0
+  IsTaskKnown i (Wait w task) = IsPointKnown known (task_point i w)
+  IsTaskKnown i p = Unit {0}
 
-  first_known : (i : ℕ) (p : Place) (ps : List Place) → AreDotsKnown i (p ∷ ps) → IsKnown known (Dot i)
-  first_known i p ps dots = let z : i + 0 ≡ i = omega arith in subst (λ n. IsKnown known (Dot n)) z (dots 0 p refl)
+  -- the same of the tasks of a list of places, of which the first has the number i
+  abbrev AreTasksKnown : ℕ → List Place → Type 0
+  AreTasksKnown i ps = (j : ℕ) (p : Place) → slice_get ps j ≡ Some p → IsTaskKnown (i + j) p
 
-  others_known : (i : ℕ) (p : Place) (ps : List Place) → AreDotsKnown i (p ∷ ps) → AreDotsKnown (i + 1) ps
-  others_known i p ps dots j q there = let z : i + suc j ≡ i + 1 + j = omega arith in subst (λ n. IsKnown known (Dot n)) z (dots (suc j) q there)
+  first_known : (i : ℕ) (p : Place) (ps : List Place) → AreTasksKnown i (p ∷ ps) → IsTaskKnown i p
+  first_known i p ps tasks = let z : i + 0 ≡ i = omega arith in subst (λ n. IsTaskKnown n p) z (tasks 0 p refl)
 
-  point_known : (i : ℕ) (w : Where) → IsKnown known (Dot i) → IsPointKnown known (task_point i w)
-  point_known i Outermost k = record { dot = tt; start = tt }
-  point_known i Between k = record { dot = k; start = tt }
+  others_known : (i : ℕ) (p : Place) (ps : List Place) → AreTasksKnown i (p ∷ ps) → AreTasksKnown (i + 1) ps
+  others_known i p ps tasks j q there = let z : i + suc j ≡ i + 1 + j = omega arith in subst (λ n. IsTaskKnown n q) z (tasks (suc j) q there)
 
   -- ---- definitions
 
@@ -66,24 +68,24 @@ module _ (known : Known) where
   entry_says (b ∷ bs) said d (inl h) = h
   entry_says (b ∷ bs) said d (inr h) = absurd h
 
-  script_known : (i : ℕ) (w : Where) (name : Name) (e : Expression) (d : Definition) → IsKnown known (Dot i) → Has (Says d) (entry_of name (OfScript e (task_point i w))) → IsDefinitionKnown known d
-  script_known i w name e d k h = subst (IsDefinitionKnown known) (entry_says name (OfScript e (task_point i w)) d h) (point_known i w k)
+  script_known : (i : ℕ) (w : Where) (name : Name) (e : Expression) (d : Definition) → IsPointKnown known (task_point i w) → Has (Says d) (entry_of name (OfScript e (task_point i w))) → IsDefinitionKnown known d
+  script_known i w name e d k h = subst (IsDefinitionKnown known) (entry_says name (OfScript e (task_point i w)) d h) k
 
-  assigned_known : (i : ℕ) (p : Place) (d : Definition) → IsKnown known (Dot i) → Has (Says d) (assigned_entry i p) → IsDefinitionKnown known d
+  assigned_known : (i : ℕ) (p : Place) (d : Definition) → IsTaskKnown i p → Has (Says d) (assigned_entry i p) → IsDefinitionKnown known d
   assigned_known i (Wait w (Assign name e)) d k h = script_known i w name e d k h
   assigned_known i p d k h = absurd h
 
-  provided_known : (i : ℕ) (p : Place) (d : Definition) → IsKnown known (Dot i) → Has (Says d) (provided_entry i p) → IsDefinitionKnown known d
+  provided_known : (i : ℕ) (p : Place) (d : Definition) → IsTaskKnown i p → Has (Says d) (provided_entry i p) → IsDefinitionKnown known d
   provided_known i (Wait w (Provide e)) d k h = script_known i w e.name e.value d k h
   provided_known i p d k h = absurd h
 
-  all_assigned : (i : ℕ) (ps : List Place) (d : Definition) → AreDotsKnown i ps → Has (Says d) (assigned_entries i ps) → IsDefinitionKnown known d
-  all_assigned i [] d dots h = absurd h
-  all_assigned i (p ∷ ps) d dots h = ⊎_elim (assigned_known i p d (first_known i p ps dots)) (all_assigned (i + 1) ps d (others_known i p ps dots)) (has_either (Says d) (assigned_entry i p) (assigned_entries (i + 1) ps) h)
+  all_assigned : (i : ℕ) (ps : List Place) (d : Definition) → AreTasksKnown i ps → Has (Says d) (assigned_entries i ps) → IsDefinitionKnown known d
+  all_assigned i [] d tasks h = absurd h
+  all_assigned i (p ∷ ps) d tasks h = ⊎_elim (assigned_known i p d (first_known i p ps tasks)) (all_assigned (i + 1) ps d (others_known i p ps tasks)) (has_either (Says d) (assigned_entry i p) (assigned_entries (i + 1) ps) h)
 
-  all_provided : (i : ℕ) (ps : List Place) (d : Definition) → AreDotsKnown i ps → Has (Says d) (provided_entries i ps) → IsDefinitionKnown known d
-  all_provided i [] d dots h = absurd h
-  all_provided i (p ∷ ps) d dots h = ⊎_elim (provided_known i p d (first_known i p ps dots)) (all_provided (i + 1) ps d (others_known i p ps dots)) (has_either (Says d) (provided_entry i p) (provided_entries (i + 1) ps) h)
+  all_provided : (i : ℕ) (ps : List Place) (d : Definition) → AreTasksKnown i ps → Has (Says d) (provided_entries i ps) → IsDefinitionKnown known d
+  all_provided i [] d tasks h = absurd h
+  all_provided i (p ∷ ps) d tasks h = ⊎_elim (provided_known i p d (first_known i p ps tasks)) (all_provided (i + 1) ps d (others_known i p ps tasks)) (has_either (Says d) (provided_entry i p) (provided_entries (i + 1) ps) h)
 
   -- a row that is kept, and its section
   abbrev AreRowsKnown : List (Option Kept) → Type 0
@@ -99,10 +101,10 @@ module _ (known : Known) where
   all_tabled fates [] d rows h = absurd h
   all_tabled fates (s ∷ ss) d rows h = ⊎_elim (table_known s d (slice_get fates s.row) (rows s.row)) (all_tabled fates ss d rows) (has_either (Says d) _ (table_entries fates ss) h)
 
-  entries_known : (fates : List (Option Kept)) (ss : List SymbolRow) (ps : List Place) (d : Definition) → AreRowsKnown fates → AreDotsKnown 0 ps → Has (Says d) (all_entries fates ss ps) → IsDefinitionKnown known d
-  entries_known fates ss ps d rows dots h = ⊎_elim
-      (λ firm. ⊎_elim (all_tabled fates ss d rows) (all_assigned 0 ps d dots) (has_either (Says d) (table_entries fates ss) (assigned_entries 0 ps) firm))
-      (all_provided 0 ps d dots)
+  entries_known : (fates : List (Option Kept)) (ss : List SymbolRow) (ps : List Place) (d : Definition) → AreRowsKnown fates → AreTasksKnown 0 ps → Has (Says d) (all_entries fates ss ps) → IsDefinitionKnown known d
+  entries_known fates ss ps d rows tasks h = ⊎_elim
+      (λ firm. ⊎_elim (all_tabled fates ss d rows) (all_assigned 0 ps d tasks) (has_either (Says d) (table_entries fates ss) (assigned_entries 0 ps) firm))
+      (all_provided 0 ps d tasks)
       (has_either (Says d) (firm_entries fates ss ps) (provided_entries 0 ps) h)
 
   -- ---- what is evaluated in the end
@@ -111,37 +113,37 @@ module _ (known : Known) where
     abbrev TimelySymbol : Result (Option PlacedSymbol) Fault → Type 0
     TimelySymbol r = IsTimely r
 
-    unlisted_timely : (i : ℕ) (w : Where) (e : Expression) → IsKnown known (Dot i) → TimelySymbol (unlisted scope known i w e)
+    unlisted_timely : (i : ℕ) (w : Where) (e : Expression) → IsPointKnown known (task_point i w) → TimelySymbol (unlisted scope known i w e)
     unfolding unlisted
-    unlisted_timely i w e k = on (full_timely scope i known all max_height [] e (task_point i w) (point_known i w k)) (λ n. record { timely = λ f. f })
+    unlisted_timely i w e k = on (full_timely scope i known all max_height [] e (task_point i w) k) (λ n. record { timely = λ f. f })
 
-    listed_timely : (i : ℕ) (w : Where) (name : Name) (e : Expression) (hidden : Bool) → IsKnown known (Dot i) → TimelySymbol (listed_symbol scope known i w name e hidden)
+    listed_timely : (i : ℕ) (w : Where) (name : Name) (e : Expression) (hidden : Bool) → IsPointKnown known (task_point i w) → TimelySymbol (listed_symbol scope known i w name e hidden)
     unfolding listed_symbol
-    listed_timely i w name e hidden k = on (full_timely scope i known all max_height (name ∷ []) e (task_point i w) (point_known i w k)) (λ n. record { timely = λ f. f })
+    listed_timely i w name e hidden k = on (full_timely scope i known all max_height (name ∷ []) e (task_point i w) k) (λ n. record { timely = λ f. f })
 
-    assignment_timely : (i : ℕ) (w : Where) (name : Name) (e : Expression) → IsKnown known (Dot i) → TimelySymbol (assignment_symbol scope known i w name e)
+    assignment_timely : (i : ℕ) (w : Where) (name : Name) (e : Expression) → IsPointKnown known (task_point i w) → TimelySymbol (assignment_symbol scope known i w name e)
     assignment_timely i w [] e k = unlisted_timely i w e k
     assignment_timely i w (b ∷ bs) e k = listed_timely i w (b ∷ bs) e false k
 
-    symbol_timely : (i : ℕ) (p : Place) → IsKnown known (Dot i) → TimelySymbol (place_symbol scope known i p)
+    symbol_timely : (i : ℕ) (p : Place) → IsTaskKnown i p → TimelySymbol (place_symbol scope known i p)
     unfolding place_symbol task_symbol
     symbol_timely i (Wait w (Assign name e)) k = assignment_timely i w name e k
     symbol_timely i (Wait w (Provide d)) k = choose (is_at i (definition_of scope d.name)) (listed_timely i w d.name d.value d.hidden k) (record { timely = λ f. f })
     symbol_timely i (Wait w (Locate e)) k = unlisted_timely i w e k
     symbol_timely i p k = record { timely = λ f. f }
 
-    symbols_timely : (i : ℕ) (ps : List Place) → AreDotsKnown i ps → IsTimely (symbols scope known i ps)
-    symbols_timely i [] dots = record { timely = λ f. f }
-    symbols_timely i (p ∷ ps) dots = on (symbol_timely i p (first_known i p ps dots)) (λ s. on (symbols_timely (i + 1) ps (others_known i p ps dots)) (λ found. record { timely = λ f. f }))
+    symbols_timely : (i : ℕ) (ps : List Place) → AreTasksKnown i ps → IsTimely (symbols scope known i ps)
+    symbols_timely i [] tasks = record { timely = λ f. f }
+    symbols_timely i (p ∷ ps) tasks = on (symbol_timely i p (first_known i p ps tasks)) (λ s. on (symbols_timely (i + 1) ps (others_known i p ps tasks)) (λ found. record { timely = λ f. f }))
 
-    condition_timely : (i : ℕ) (p : Place) → IsKnown known (Dot i) → IsTimely (place_holds scope known i p)
+    condition_timely : (i : ℕ) (p : Place) → IsTaskKnown i p → IsTimely (place_holds scope known i p)
     unfolding place_holds task_holds
-    condition_timely i (Wait w (Check command)) k = on (assert_timely scope i known all command (task_point i w) (point_known i w k)) (λ x. record { timely = λ f. f })
+    condition_timely i (Wait w (Check command)) k = on (assert_timely scope i known all command (task_point i w) k) (λ x. record { timely = λ f. f })
     condition_timely i p k = record { timely = λ f. f }
 
-    conditions_timely : (i : ℕ) (ps : List Place) → AreDotsKnown i ps → IsTimely (conditions scope known i ps)
-    conditions_timely i [] dots = record { timely = λ f. f }
-    conditions_timely i (p ∷ ps) dots = on (condition_timely i p (first_known i p ps dots)) (λ u. conditions_timely (i + 1) ps (others_known i p ps dots))
+    conditions_timely : (i : ℕ) (ps : List Place) → AreTasksKnown i ps → IsTimely (conditions scope known i ps)
+    conditions_timely i [] tasks = record { timely = λ f. f }
+    conditions_timely i (p ∷ ps) tasks = on (condition_timely i p (first_known i p ps tasks)) (λ u. conditions_timely (i + 1) ps (others_known i p ps tasks))
 
 -- ---- cases
 
@@ -153,8 +155,19 @@ module _ (c : Case) (state : State) (f : IsLaid c state) where
       let lies = rows_lie_in_sections c state f r laid.row k laid.there fate address.0 address.1 in
       (address, (lies.start, lies.spans.starts))
 
-  known_dots : AreDotsKnown state.known 0 (places_of c.commands c.inputs)
-  known_dots j p there = let z : j ≡ 0 + j = omega arith in subst (λ n. IsKnown state.known (Dot n)) z ((all_is_known c state f).dots j p there)
+  point_known : (i : ℕ) (w : Where) (task : Task) → slice_get (places_of c.commands c.inputs) i ≡ Some (Wait w task) → IsPointKnown state.known (task_point i w)
+  point_known i Outermost task there = record { dot = tt; start = tt }
+  point_known i Between task there = record { dot = (all_is_known c state f).dots i (Wait Between task) there; start = tt }
+  point_known i (Inside s) task there =
+      let all = all_is_known c state f in
+      record { dot = all.dots i (Wait (Inside s) task) there; start = all.starts s (held_below c.commands c.inputs i s task there) }
+
+  task_known : (i : ℕ) (p : Place) → slice_get (places_of c.commands c.inputs) i ≡ Some p → IsTaskKnown state.known i p
+  task_known i (Wait w task) there = point_known i w task there
+  task_known i p there = tt
+
+  known_tasks : AreTasksKnown state.known 0 (places_of c.commands c.inputs)
+  known_tasks j p there = let z : j ≡ 0 + j = omega arith in subst (λ n. IsTaskKnown state.known n p) z (task_known j p there)
 
   known_scope : IsScopeKnown state.known (scope_of c)
   known_scope = record {
@@ -163,7 +176,7 @@ module _ (c : Case) (state : State) (f : IsLaid c state) where
         let within = position_within (is_named name) 0 (section_names c.commands c.inputs) s e in
         let low : s < length (section_names c.commands c.inputs) = omega (arith, within) in
         (all.starts s low, all.loads s low, all.ends s low);
-    definitions = λ name d e. entries_known state.known (fates_of c.commands c.inputs) c.inputs.symbols (places_of c.commands c.inputs) d known_rows known_dots (said_at state.known (entries_of c) (number_of name (entry_names (entries_of c))) d e);
+    definitions = λ name d e. entries_known state.known (fates_of c.commands c.inputs) c.inputs.symbols (places_of c.commands c.inputs) d known_rows known_tasks (said_at state.known (entries_of c) (number_of name (entry_names (entries_of c))) d e);
   }
 
 pub end_is_late : (c : Case) (n : ℕ) (x : Name) → EndFault c (NotLaidOut n x) → ⊥
@@ -171,7 +184,7 @@ end_is_late c n x end =
     let places = places_of c.commands c.inputs in
     let known = end.state.known in
     let scope = known_scope c end.state end.laid in
-    let dots = known_dots c end.state end.laid in
-    let all = on (symbols_timely known (scope_of c) scope 0 places dots) (λ found. on (conditions_timely known (scope_of c) scope 0 places dots) (λ u. record { timely = λ f. f })) in
+    let tasks = known_tasks c end.state end.laid in
+    let all = on (symbols_timely known (scope_of c) scope 0 places tasks) (λ found. on (conditions_timely known (scope_of c) scope 0 places tasks) (λ u. record { timely = λ f. f })) in
     let late : IsTimely {A = List PlacedSymbol} (Err (NotLaidOut n x)) = subst IsTimely end.refused all in
     late.timely tt

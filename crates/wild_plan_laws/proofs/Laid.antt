@@ -1,125 +1,32 @@
 -- Where sections and rows lie, and that none overlap, wherever places are laid out.
-use Rattle.std.proofs.Common.{◌≡◌, ◌∙◌, ◌⊎◌, ℕ, ◌+◌, ◌%◌, ◌^◌, ◌<◌, ◌≤◌, false, List, Option, Some, None, Ok, refl, sym, ap, subst, inl, inr, ⊎_elim, arith}
+use Rattle.std.proofs.Common.{◌≡◌, ◌∙◌, ◌⊎◌, ℕ, ◌+◌, ◌%◌, ◌^◌, ◌<◌, ◌≤◌, Bool, true, false, cond, List, [], ◌∷◌, length, Option, Some, None, Ok, refl, sym, ap, subst, inl, inr, ⊎_elim, arith}
 use Rattle.std.specs.Prelude.{slice_get}
 use Rattle.std.specs.List.{All}
 use Rattle.std.specs.Option.{option_map}
-use Rattle.std.proofs.lemmas.Bool.{lt-ltb, ne_eqb, eqb-true, and_from, both_ways}
-use Rattle.wild_value_spec.specs.Known.{Known, IsPart, Asked, Start, Load, End, Address, Dot, LoadDot, nothing, number_at, same_asked, with_number}
+use Rattle.std.proofs.lemmas.Bool.{eqb-true}
+use Rattle.std.proofs.lemmas.List.{append-nil}
+use Rattle.std.proofs.Math.Nat.{zero-mod}
+use Rattle.wild_expression_tree.specs.declared.tree.Expression.{Expression}
+use Rattle.wild_value_spec.specs.Known.{Known, IsPart, Start, Load, End, Address, Dot, number_at, with_number}
 use Rattle.wild_plan_spec.specs.declared.chunk.Chunk.{Chunk}
 use Rattle.wild_plan_spec.specs.declared.chunk.ChunkRow.{ChunkRow}
 use Rattle.wild_plan_spec.specs.declared.chunk.Kept.{Kept}
 use Rattle.wild_plan_spec.specs.declared.row.InputRow.{InputRow}
 use Rattle.wild_plan_spec.specs.Definitions.{row_chunk}
 use Rattle.wild_plan_spec.specs.Ground.{Ground}
-use Rattle.wild_plan_spec.specs.Overlaps.{shares, lowest_sharing}
-use Rattle.wild_plan_spec.specs.Steps.{State, row_placed, chunk_placed}
+use Rattle.wild_plan_spec.specs.Overlaps.{lowest_sharing}
+use Rattle.wild_plan_spec.specs.Places.{Place, SetLocation}
+use Rattle.wild_plan_spec.specs.Steps.{State, first_state, row_placed, chunk_placed, is_floating, overlapped}
 use Rattle.wild_walk_laws.specs.Nesting.{Zone, Free, Inside}
 use Rattle.wild_walk_laws.proofs.Chunked.{IsRow, IsRowOf}
-use Rattle.wild_walk_laws.proofs.Entries.{known_number, one_number, grown_entry, new_entry, other_entry, entry_is}
-use Rattle.wild_walk_laws.proofs.Steps.{IsUp, noted_at, opened_at, row_at, ended_at, by_row, by_rows, by_chunk}
+use Rattle.wild_walk_laws.proofs.Entries.{known_number, grown_entry, new_entry, other_entry, entry_is}
+use Rattle.wild_walk_laws.proofs.Fresh.{IsFresh, fresh_on, opened_fresh, opened_address, opened_start, opened_load}
+use Rattle.wild_walk_laws.proofs.Growing.{Grows, opened_part}
+use Rattle.wild_walk_laws.proofs.Steps.{Begins, noted_at, counter_at, cursor_at, opened_at, row_at, ended_at, by_row, by_rows, by_chunk}
 use Rattle.wild_walk_laws.proofs.Walked.{Passes}
-use Rattle.wild_plan_laws.specs.Holding.{RowHolds, SectionHolds, LaidSectionStands, Spans}
-use Rattle.wild_plan_laws.specs.Sharing.{NoneShares}
-use Rattle.wild_walk_laws.proofs.Numbered.{up_to}
+use Rattle.wild_plan_laws.specs.Holding.{AreWordsIn, RowHolds, LaidSectionStands, Spans, StandsBy}
 use Rattle.wild_plan_laws.proofs.Sharing.{sharing_is_lowest}
-
--- ---- what is not known yet
-
--- when it becomes known: where its section begins or ends; nothing waits for the rest
-abbrev time : Asked → ℕ
-time (Start s) = s + s + 1
-time (Load s) = s + s + 1
-time (End s) = s + s + 2
-time x = 0
-
--- from when on nothing is known
-abbrev clock : Zone → ℕ
-clock (Free n) = n + n + 1
-clock (Inside s) = s + s + 2
-
-abbrev pub IsFresh : Zone → Known → Type 0
-IsFresh z known = (x : Asked) → clock z ≤ time x → known x ≡ None
-
--- what becomes known earlier is another one
-earlier_other : (x y : Asked) → time x < time y → same_asked x y ≡ false
-earlier_other (Start s) (Start u) low = ne_eqb s u (omega (arith, low))
-earlier_other (Load s) (Load u) low = ne_eqb s u (omega (arith, low))
-earlier_other (End s) (End u) low = ne_eqb s u (omega (arith, low))
-earlier_other (Address s) (Address u) low = absurd (omega (arith, low))
-earlier_other (Dot s) (Dot u) low = absurd (omega (arith, low))
-earlier_other (LoadDot s) (LoadDot u) low = absurd (omega (arith, low))
-earlier_other x y low = refl
-
--- with one more entry
-fresh_on : (y z : Zone) (x : Asked) (n : ℕ) (known : Known) → clock y ≤ clock z → time x < clock z → IsFresh y known → IsFresh z (with_number x n known)
-fresh_on y z x n known low past h a ahead = other_entry x n known a (earlier_other x a (omega (arith, past, ahead))) ∙ h a (omega (arith, low, ahead))
-
--- ---- sections
-
-spans_grow : (known more : Known) (s start end : ℕ) → IsPart known more → Spans known s start end → Spans more s start end
-spans_grow known more s start end part h = record { starts = part (Start s) start h.starts; ends = part (End s) end h.ends }
-
-stands_grow : (known more : Known) (s alignment : ℕ) → IsPart known more → LaidSectionStands known s alignment → LaidSectionStands more s alignment
-stands_grow known more s alignment part h = record {
-  start = h.start;
-  end = h.end;
-  spans = spans_grow known more s h.start h.end part h.spans;
-  aligned = h.aligned;
-  loaded = part (Load s) h.start h.loaded;
-  forward = h.forward;
-  below = h.below;
-}
-
--- a section that stands holds the addresses that it held
-held_before : (known more : Known) (s alignment x : ℕ) → IsPart known more → LaidSectionStands known s alignment → SectionHolds more s x → SectionHolds known s x
-held_before known more s alignment x part h holds =
-    let start = one_number more (Start s) h.start holds.start (part (Start s) h.start h.spans.starts) holds.spans.starts in
-    let end = one_number more (End s) h.end holds.end (part (End s) h.end h.spans.ends) holds.spans.ends in
-    record { start = h.start; end = h.end; spans = h.spans; from = omega (arith, start); to = omega (arith, end) }
-
--- where a section does not share addresses with one that stands, none is one of both
-shares_none : (known : Known) (s start end x : ℕ) → shares known start end s ≡ false → SectionHolds known s x → start ≤ x → x < end → ⊥
-unfolding shares
-shares_none known s start end x e holds low high =
-    let first : number_at known (Start s) ≡ holds.start = known_number known (Start s) holds.start holds.spans.starts in
-    let last : number_at known (End s) ≡ holds.end = known_number known (End s) holds.end holds.spans.ends in
-    both_ways _ e
-    (and_from _ _ (lt-ltb (number_at known (Start s)) (number_at known (End s)) (omega (arith, first, last)))
-    (and_from _ _ (lt-ltb start end (omega (arith, low, high)))
-    (and_from _ _ (lt-ltb start (number_at known (End s)) (omega (arith, last, low))) (lt-ltb (number_at known (Start s)) end (omega (arith, first, high))))))
-
-module _ (alignment : ℕ → ℕ) where
-  -- the first n sections stand, and no address is one of two of them
-  pub record AreApart (n : ℕ) (known : Known) : Type 0 where
-    pub stand : (s : ℕ) → s < n → LaidSectionStands known s (alignment s)
-    pub apart : (s u x : ℕ) → s < n → u < n → SectionHolds known s x → SectionHolds known u x → s ≡ u
-
-  apart_on : (n : ℕ) (known more : Known) → IsPart known more → AreApart n known → AreApart n more
-  apart_on n known more part h = record {
-    stand = λ s low. stands_grow known more s (alignment s) part (h.stand s low);
-    apart = λ s u x low high one other. h.apart s u x low high
-        (held_before known more s (alignment s) x part (h.stand s low) one) (held_before known more u (alignment u) x part (h.stand u high) other);
-  }
-
-  -- section s stands too, which shares no address with an earlier one
-  module _ (s start end : ℕ) (known more : Known) (part : IsPart known more) (alone : NoneShares known start end s)
-      (own : LaidSectionStands more s (alignment s)) (spans : Spans more s start end) (h : AreApart s known) where
-    own_apart : (u x : ℕ) → u < s → SectionHolds more u x → SectionHolds more s x → ⊥
-    own_apart u x low one other =
-        let first = one_number more (Start s) start other.start spans.starts other.spans.starts in
-        let last = one_number more (End s) end other.end spans.ends other.spans.ends in
-        shares_none known u start end x (alone u low) (held_before known more u (alignment u) x part (h.stand u low) one) (omega (arith, first)) (omega (arith, last))
-
-    one_apart : AreApart (s + 1) more
-    one_apart =
-        let on = apart_on s known more part h in
-        record {
-          stand = λ u low. up_to s u (λ v. LaidSectionStands more v (alignment v)) (omega (arith, low)) (on.stand u) own;
-          apart = λ u v x low high one other. up_to s u (λ w. SectionHolds more w x → w ≡ v) (omega (arith, low))
-              (λ lt holds. up_to s v (λ w. SectionHolds more w x → u ≡ w) (omega (arith, high)) (λ below there. on.apart u v x lt below holds there) (λ there. absurd (own_apart u x lt holds there)) other)
-              (λ holds. up_to s v (λ w. SectionHolds more w x → s ≡ w) (omega (arith, high)) (λ below there. absurd (own_apart v x below there holds)) (λ there. refl) other)
-              one;
-        }
+use Rattle.wild_plan_laws.proofs.Spanned.{AreApart, spans_grow, listed_last, apart_on, one_apart}
 
 -- ---- rows
 
@@ -179,30 +86,50 @@ module _ (rows : List InputRow) (fates : List (Option Kept)) where
 
 -- ---- what holds between sections, and in them
 
-module _ (alignment : ℕ → ℕ) (rows : List InputRow) (fates : List (Option Kept)) where
+alone_by : (b : Bool) (o : Option ℕ) → cond b None o ≡ None → b ≡ false → o ≡ None
+alone_by true o e f = absurd (cc)
+alone_by false o e f = e
+
+-- how a section begins says how it stands
+stands_by : (ground : Ground) (i s n m : ℕ) (st : State) (b : Bool) → (ground.facts s).floating ≡ b → Begins ground i s n m st → StandsBy (ground.facts s) n m
+stands_by ground i s n m st true is begins = record {
+  aligned = λ none. ap (λ (k : ℕ). k % 2 ^ (ground.facts s).alignment) (begins.floats none is) ∙ zero-mod (2 ^ (ground.facts s).alignment);
+  small = λ none. let zero_is = begins.floats none is in omega (arith, zero_is);
+  floats = begins.floats;
+  loaded = begins.stays;
+}
+stands_by ground i s n m st false is begins = record {
+  aligned = λ none. (begins.rounds none is).multiple;
+  small = λ none. (begins.rounds none is).fits;
+  floats = begins.floats;
+  loaded = begins.stays;
+}
+
+module _ (ground : Ground) (places : List Place) (rows : List InputRow) (fates : List (Option Kept)) where
   -- the first n sections stand, with their rows
-  pub record After (n : ℕ) (known : Known) : Type 0 where
-    pub fresh : IsFresh (Free n) known
-    pub sections : AreApart alignment n known
-    pub within : AreWithin rows fates n (λ r a. ⊥) known
+  pub record After (n : ℕ) (st : State) : Type 0 where
+    pub fresh : IsFresh (Free n) st.known
+    pub sections : AreApart ground places n st
+    pub within : AreWithin rows fates n (λ r a. ⊥) st.known
 
   -- so do those before section s, whose rows so far lie below the cursor
   pub record Amid (s : ℕ) (st : State) : Type 0 where
     pub fresh : IsFresh (Inside s) st.known
-    pub sections : AreApart alignment s st.known
+    pub sections : AreApart ground places s st
     pub start : ℕ
+    pub load : ℕ
     pub starts : st.known (Start s) ≡ Some start
-    pub loaded : st.known (Load s) ≡ Some start
-    pub aligned : start % 2 ^ alignment s ≡ 0
+    pub loads : st.known (Load s) ≡ Some load
+    pub begins : StandsBy (ground.facts s) start load
     pub low : start ≤ st.cursor
-    pub high : st.cursor < 2 ^ 64
+    pub high : start < 2 ^ 64 → AreWordsIn places st.locations s → st.cursor < 2 ^ 64
     pub within : AreWithin rows fates s (λ r a. Lies rows fates r a s start st.cursor) st.known
 
   abbrev pub Stands : Zone → State → Type 0
-  Stands (Free n) st = After n st.known
+  Stands (Free n) st = After n st
   Stands (Inside s) st = Amid s st
 
-  pub nothing_after : After 0 nothing
+  pub nothing_after : After 0 (first_state ground)
   nothing_after = record {
     fresh = λ y ahead. refl;
     sections = record { stand = λ s low. absurd (omega (arith, low)); apart = λ s u x low. absurd (omega (arith, low)) };
@@ -210,53 +137,78 @@ module _ (alignment : ℕ → ℕ) (rows : List InputRow) (fates : List (Option 
   }
 
   -- it goes on in a section, where more is known, and rows lie below the cursor
-  amid_on : (s : ℕ) (st next : State) → IsPart st.known next.known → IsFresh (Inside s) next.known → st.cursor ≤ next.cursor → next.cursor < 2 ^ 64
-      → (h : Amid s st) → AreWithin rows fates s (λ r a. Lies rows fates r a s h.start next.cursor) next.known → Amid s next
-  amid_on s st next part fresh on high h within = record {
+  amid_on : (s : ℕ) (st next : State) → Grows st next → IsFresh (Inside s) next.known → st.cursor ≤ next.cursor → (h : Amid s st)
+      → (h.start < 2 ^ 64 → AreWordsIn places next.locations s → next.cursor < 2 ^ 64) → AreWithin rows fates s (λ r a. Lies rows fates r a s h.start next.cursor) next.known → Amid s next
+  amid_on s st next grows fresh on h high within = record {
     fresh = fresh;
-    sections = apart_on alignment s st.known next.known part h.sections;
+    sections = apart_on ground places s st next grows h.sections;
     start = h.start;
-    starts = part (Start s) h.start h.starts;
-    loaded = part (Load s) h.start h.loaded;
-    aligned = h.aligned;
-    low = omega (arith, on);
+    load = h.load;
+    starts = grows.known (Start s) h.start h.starts;
+    loads = grows.known (Load s) h.load h.loads;
+    begins = h.begins;
+    low = let low = h.low in omega (arith, on, low);
     high = high;
     within = within;
   }
 
+  -- more is known, and the same is listed
+  knows : (st next : State) → IsPart st.known next.known → next.locations ≡ st.locations → Grows st next
+  knows st next part same = record { known = part; locations = ([], same ∙ sym (append-nil st.locations)) }
+
   noted : (z : Zone) (i n : ℕ) (st : State) → Stands z st → Stands z (noted_at i n st)
-  noted (Free m) i n st h = record {
-    fresh = fresh_on (Free m) (Free m) (Dot i) n st.known (omega arith) (omega arith) h.fresh;
-    sections = apart_on alignment m st.known (noted_at i n st).known (grown_entry (Dot i) n st.known) h.sections;
-    within = within_on rows fates m m (λ r a. ⊥) (λ r a. ⊥) st.known (noted_at i n st).known (omega arith) (grown_entry (Dot i) n st.known) (λ r. other_entry (Dot i) n st.known (Address r) refl) (λ r a l. inr l) h.within;
-  }
+  noted (Free m) i n st h =
+      let part = grown_entry (Dot i) n st.known in
+      record {
+        fresh = fresh_on (Free m) (Free m) (Dot i) n st.known (omega arith) (omega arith) h.fresh;
+        sections = apart_on ground places m st (noted_at i n st) (knows st (noted_at i n st) part refl) h.sections;
+        within = within_on rows fates m m (λ r a. ⊥) (λ r a. ⊥) st.known (noted_at i n st).known (omega arith) part (λ r. other_entry (Dot i) n st.known (Address r) refl) (λ r a l. inr l) h.within;
+      }
   noted (Inside s) i n st h =
       let part = grown_entry (Dot i) n st.known in
-      amid_on s st (noted_at i n st) part (fresh_on (Inside s) (Inside s) (Dot i) n st.known (omega arith) (omega arith) h.fresh) (omega arith) h.high h
+      amid_on s st (noted_at i n st) (knows st (noted_at i n st) part refl) (fresh_on (Inside s) (Inside s) (Dot i) n st.known (omega arith) (omega arith) h.fresh) (omega arith) h h.high
       (within_on rows fates s s _ (λ r a. Lies rows fates r a s h.start st.cursor) st.known (noted_at i n st).known (omega arith) part (λ r. other_entry (Dot i) n st.known (Address r) refl) (λ r a l. inr l) h.within)
 
+  -- the counter is set
+  located : (n i m : ℕ) (st : State) → After n st → After n (counter_at i m st)
+  located n i m st h = record {
+    fresh = h.fresh;
+    sections = apart_on ground places n st (counter_at i m st) (record { known = λ x k e. e; locations = (record { statement = i; address = m } ∷ [], refl) }) h.sections;
+    within = h.within;
+  }
+
   -- a section begins
-  opened : (s n : ℕ) (st : State) → IsUp st.counter (alignment s) n → After s st.known → Amid s (opened_at s n st)
-  opened s n st up h =
-      let begins = with_number (Start s) n st.known in
-      let part : IsPart st.known (opened_at s n st).known = λ x m e. grown_entry (Load s) n begins x m (grown_entry (Start s) n st.known x m e) in
+  opened : (i s n m : ℕ) (st : State) → Begins ground i s n m st → After s st → Amid s (opened_at i s n m st)
+  opened i s n m st begins h =
+      let next = opened_at i s n m st in
+      let part = opened_part i s n m st in
       record {
-        fresh = fresh_on (Inside s) (Inside s) (Load s) n begins (omega arith) (omega arith) (fresh_on (Free s) (Inside s) (Start s) n st.known (omega arith) (omega arith) h.fresh);
-        sections = apart_on alignment s st.known (opened_at s n st).known part h.sections;
+        fresh = opened_fresh i s n m st h.fresh;
+        sections = apart_on ground places s st next (knows st next part refl) h.sections;
         start = n;
-        starts = other_entry (Load s) n begins (Start s) refl ∙ new_entry (Start s) n st.known (h.fresh (Start s) (omega arith));
-        loaded = new_entry (Load s) n begins (other_entry (Start s) n st.known (Load s) refl ∙ h.fresh (Load s) (omega arith));
-        aligned = up.multiple;
+        load = m;
+        starts = opened_start i s n m st h.fresh;
+        loads = opened_load i s n m st h.fresh;
+        begins = stands_by ground i s n m st (ground.facts s).floating refl begins;
         low = omega arith;
-        high = up.fits;
-        within = within_on rows fates s s (λ r a. ⊥) (λ r a. Lies rows fates r a s n n) st.known (opened_at s n st).known (omega arith) part
-            (λ r. other_entry (Load s) n begins (Address r) refl ∙ other_entry (Start s) n st.known (Address r) refl) (λ r a l. absurd l) h.within;
+        high = λ small words. small;
+        within = within_on rows fates s s (λ r a. ⊥) (λ r a. Lies rows fates r a s n n) st.known next.known (omega arith) part (opened_address i s n m st) (λ r a l. absurd l) h.within;
       }
+
+  -- the rows so far lie below a cursor that went on
+  below_on : (s : ℕ) (st : State) (n : ℕ) → st.cursor ≤ n → (h : Amid s st) → AreWithin rows fates s (λ r a. Lies rows fates r a s h.start n) st.known
+  below_on s st n on h =
+      within_on rows fates s s _ (λ r a. Lies rows fates r a s h.start n) st.known st.known (omega arith) (λ x m e. e) (λ r. refl) (λ r a l. inr (lies_below rows fates r a s h.start st.cursor n on l)) h.within
+
+  -- the cursor is set
+  moved : (s i n : ℕ) (e : Expression) (st : State) → slice_get places i ≡ Some (SetLocation (Some s) e) → st.cursor ≤ n → Amid s st → Amid s (cursor_at i n st)
+  moved s i n e st there on h =
+      amid_on s st (cursor_at i n st) (record { known = λ x k f. f; locations = (record { statement = i; address = n } ∷ [], refl) }) h.fresh on h
+      (λ small words. words (length st.locations) (record { statement = i; address = n }) e (listed_last st.locations _) there) (below_on s st n on h)
 
   -- the cursor goes on
   raised : (s : ℕ) (st : State) (n : ℕ) → st.cursor ≤ n → n < 2 ^ 64 → Amid s st → Amid s (record st { cursor = n })
-  raised s st n on high h = amid_on s st (record st { cursor = n }) (λ x m e. e) h.fresh on high h
-      (within_on rows fates s s _ (λ r a. Lies rows fates r a s h.start n) st.known st.known (omega arith) (λ x m e. e) (λ r. refl) (λ r a l. inr (lies_below rows fates r a s h.start st.cursor n on l)) h.within)
+  raised s st n on high h = amid_on s st (record st { cursor = n }) (knows st (record st { cursor = n }) (λ x m e. e) refl) h.fresh on h (λ small words. high) (below_on s st n on h)
 
   -- ---- a row is placed
 
@@ -314,7 +266,7 @@ module _ (alignment : ℕ → ℕ) (rows : List InputRow) (fates : List (Option 
     placed_amid : (n : ℕ) → st.cursor + c.size ≤ n → n < 2 ^ 64 → Amid s (row_at c n st)
     placed_amid n ends high =
         let part = grown_entry (Address c.row) st.cursor st.known in
-        amid_on s st (row_at c n st) part (fresh_on (Inside s) (Inside s) (Address c.row) st.cursor st.known (omega arith) (omega arith) h.fresh) (omega (arith, ends)) high h (record {
+        amid_on s st (row_at c n st) (knows st (row_at c n st) part refl) (fresh_on (Inside s) (Inside s) (Address c.row) st.cursor st.known (omega arith) (omega arith) h.fresh) (omega (arith, ends)) h (λ small words. high) (record {
           lie = λ r a e. ⊎_elim
               (λ old. ⊎_elim
               (λ l. inl (below_grows rows fates s s st.known placed r a (omega arith) part l))
@@ -335,28 +287,39 @@ module _ (alignment : ℕ → ℕ) (rows : List InputRow) (fates : List (Option 
 
   -- ---- a section ends
 
-  ends : (s : ℕ) (st : State) → lowest_sharing st.known (number_at st.known (Start s)) st.cursor s ≡ None → Amid s st → After (s + 1) (ended_at s st).known
-  ends s st none h =
-      let known = (ended_at s st).known in
+  ends : (s counter : ℕ) (st : State) → overlapped ground s st ≡ None → Amid s st → After (s + 1) (ended_at s counter st)
+  unfolding overlapped
+  ends s counter st none h =
+      let next = ended_at s counter st in
       let part = grown_entry (End s) st.cursor st.known in
       let number = known_number st.known (Start s) h.start h.starts in
-      let alone : NoneShares st.known h.start st.cursor s = (sharing_is_lowest st.known h.start st.cursor s).none.0 (ap (λ (n : ℕ). lowest_sharing st.known n st.cursor s) (sym number) ∙ none) in
-      let spans : Spans known s h.start st.cursor = record { starts = part (Start s) h.start h.starts; ends = new_entry (End s) st.cursor st.known (h.fresh (End s) (omega arith)) } in
-      let own : LaidSectionStands known s (alignment s) = record { start = h.start; end = st.cursor; spans = spans; aligned = h.aligned; loaded = part (Load s) h.start h.loaded; forward = h.low; below = h.high } in
+      let alone = λ (counted : (ground.facts s).floating ≡ false).
+      let lowest = alone_by (ground.facts s).floating (lowest_sharing (is_floating ground) st.known (number_at st.known (Start s)) st.cursor s) none counted in
+      (sharing_is_lowest (is_floating ground) st.known h.start st.cursor s).none.0 (ap (λ (n : ℕ). lowest_sharing (is_floating ground) st.known n st.cursor s) (sym number) ∙ lowest) in
+      let spans : Spans next.known s h.start st.cursor = record { starts = part (Start s) h.start h.starts; ends = new_entry (End s) st.cursor st.known (h.fresh (End s) (omega arith)) } in
+      let own : LaidSectionStands places next s (ground.facts s) = record {
+        start = h.start;
+        load = h.load;
+        end = st.cursor;
+        spans = spans;
+        loads = part (Load s) h.load h.loads;
+        begins = h.begins;
+        forward = h.low;
+        below = h.high;
+      } in
       record {
         fresh = fresh_on (Inside s) (Free (s + 1)) (End s) st.cursor st.known (omega arith) (omega arith) h.fresh;
-        sections = one_apart alignment s h.start st.cursor st.known known part alone own spans h.sections;
-        within = within_on rows fates s (s + 1) (λ r a. Lies rows fates r a s h.start st.cursor) (λ r a. ⊥) st.known known (omega arith) part (λ r. other_entry (End s) st.cursor st.known (Address r) refl)
+        sections = one_apart ground places s h.start st.cursor st next (knows st next part refl) alone own spans h.sections;
+        within = within_on rows fates s (s + 1) (λ r a. Lies rows fates r a s h.start st.cursor) (λ r a. ⊥) st.known next.known (omega arith) part (λ r. other_entry (End s) st.cursor st.known (Address r) refl)
             (λ r a l. inl (record { number = s; below = omega arith; start = h.start; end = st.cursor; spans = spans; lies = l })) h.within;
       }
 
-pub stands_passes : (ground : Ground) (rows : List InputRow) (fates : List (Option Kept)) → ((q : Chunk) → All (IsRowOf rows fates q) (ground.rows q)) → Passes ground (Stands (λ s. (ground.facts s).alignment) rows fates)
-stands_passes ground rows fates all =
-    let alignment = λ (s : ℕ). (ground.facts s).alignment in
-    record {
-      noted = noted alignment rows fates;
-      located = λ n counter locations st h. h;
-      opened = opened alignment rows fates;
-      placed = λ s q st next own goes h. chunk_amid alignment rows fates s q (ground.rows q) st next own (all q) goes h;
-      ended = ends alignment rows fates;
-    }
+  pub stands_passes : ((q : Chunk) → All (IsRowOf rows fates q) (ground.rows q)) → Passes ground places Stands
+  stands_passes all = record {
+    noted = noted;
+    located = located;
+    moved = moved;
+    opened = opened;
+    placed = λ s q st next own goes h. chunk_amid s q (ground.rows q) st next own (all q) goes h;
+    ended = ends;
+  }

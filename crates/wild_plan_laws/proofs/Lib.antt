@@ -1,4 +1,5 @@
 pub mod Sharing
+pub mod Spanned
 pub mod Laid
 pub mod Apart
 pub mod Listed

@@ -1,18 +1,33 @@
 -- What holds of what a plan lists.
-use Rattle.std.specs.Prelude.{◌≡◌, ℕ, ◌+◌, ◌%◌, ◌^◌, ◌<◌, ◌≤◌, false, Some, slice_get}
+use Rattle.std.specs.Prelude.{◌≡◌, ◌⊎◌, ℕ, ◌+◌, ◌%◌, ◌^◌, ◌<◌, ◌≤◌, true, false, Some, slice_get}
 use Rattle.wild_plan_spec.specs.declared.placed.PlacedInput.TheVariants.{Placed}
 use Rattle.wild_plan_spec.specs.declared.placed.PlacedSection.{PlacedSection}
 use Rattle.wild_plan_spec.specs.declared.row.InputRow.{InputRow}
 use Rattle.wild_plan_spec.specs.declared.row.InputTable.{InputTable}
 use Rattle.wild_plan_spec.specs.declared.row.SymbolRow.{SymbolRow}
+use Rattle.wild_plan_spec.specs.Case.{Case}
 use Rattle.wild_plan_spec.specs.Chunks.{alignment_of}
+use Rattle.wild_plan_spec.specs.Facts.{Facts}
 use Rattle.wild_plan_spec.specs.Layout.{Layout}
+use Rattle.wild_plan_spec.specs.Orphans.{places_of}
+use Rattle.wild_plan_laws.specs.Holding.{AreWordsIn, StandsBy}
 
--- it starts at a multiple of its alignment, is loaded where it starts, and ends below 2 ^ 64
-pub record SectionStands (place : PlacedSection) : Type 0 where
-  pub aligned : place.start % 2 ^ place.alignment ≡ 0
-  pub loaded : place.load ≡ place.start
-  pub below : place.start + place.size < 2 ^ 64
+-- a section s of which this is said is listed with its alignment, starts and is loaded as it says, and ends below 2 ^ 64
+-- where its start and the locations in it are below that
+pub record SectionStands (c : Case) (plan : Layout) (s : ℕ) (f : Facts) (place : PlacedSection) : Type 0 where
+  pub alignment : place.alignment ≡ f.alignment
+  pub begins : StandsBy f place.start place.load
+  pub below : place.start < 2 ^ 64 → AreWordsIn (places_of c.commands c.inputs) plan.locations s → place.start + place.size < 2 ^ 64
+
+-- section s is listed, and counted
+pub record IsListedCounted (plan : Layout) (s : ℕ) : Type 0 where
+  pub place : PlacedSection
+  pub there : slice_get plan.sections s ≡ Some place
+  pub counted : place.counted ≡ true
+
+-- one section, or two that are counted
+abbrev pub AreOneOrListedCounted : Layout → ℕ → ℕ → Type 0
+AreOneOrListedCounted plan s u = (s ≡ u) ⊎ (IsListedCounted plan s × IsListedCounted plan u)
 
 -- what starts at one address and has this size covers the address x
 abbrev pub Covers : ℕ → ℕ → ℕ → Type 0

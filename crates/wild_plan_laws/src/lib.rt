@@ -9,6 +9,6 @@ pub use laws::{
     sections_stand, sharing_is_lowest,
 };
 pub use plans::{
-    listed_locations_hold, listed_rows_do_not_overlap, listed_rows_stand,
-    listed_sections_do_not_overlap, listed_sections_stand, listed_symbols_stand,
+    listed_rows_do_not_overlap, listed_rows_stand, listed_sections_do_not_overlap,
+    listed_sections_stand, listed_symbols_stand,
 };

@@ -1,12 +1,16 @@
 -- What is known, and the list of locations, grow from place to place.
-use Rattle.std.proofs.Common.{◌≡◌, ◌∙◌, ℕ, zero, suc, ◌+◌, ◌-◌, ◌<◌, ◌≤◌, List, [], ◌∷◌, ◌++◌, length, Some, None, Result, Ok, Err, refl, sym, ap, subst, inl, inr, arith}
+use Rattle.std.proofs.Common.{◌≡◌, ◌∙◌, ℕ, zero, suc, ◌+◌, ◌-◌, ◌<◌, ◌≤◌, List, [], ◌∷◌, ◌++◌, length, Option, Some, None, Result, Ok, Err, refl, sym, ap, subst, inl, inr, arith}
 use Rattle.std.specs.Prelude.{slice_get}
 use Rattle.std.proofs.lemmas.List.{append-nil, append_assoc}
 use Rattle.std.proofs.lemmas.Option.{slice_get_within}
 use Rattle.wild_names.specs.declared.fault.Fault.{Fault}
 use Rattle.wild_expression_tree.specs.declared.tree.Expression.{Expression}
-use Rattle.wild_value_spec.specs.Known.{IsPart, Start, Load, End, Address, Dot, with_number}
+use Rattle.wild_script_tree.specs.declared.tree.Section.{Section}
+use Rattle.wild_value_spec.specs.declared.value.Point.{Point}
+use Rattle.wild_value_spec.specs.Known.{Known, IsPart, Start, Load, End, Address, Dot, LoadDot, with_number}
 use Rattle.wild_value_spec.specs.Marks.{max_height}
+use Rattle.wild_value_spec.specs.Scope.{Scope}
+use Rattle.wild_value_spec.specs.Value.{full_value}
 use Rattle.wild_value_laws.specs.Stable.{Stays}
 use Rattle.wild_value_laws.proofs.Stable.{full_values_stay}
 use Rattle.wild_plan_spec.specs.declared.chunk.ChunkRow.{ChunkRow}
@@ -26,11 +30,11 @@ use Rattle.wild_plan_spec.specs.Walk.{Stands}
 use Rattle.wild_plan_spec.proofs.Standing.{place_at}
 use Rattle.wild_walk_laws.specs.Holding.{IsKnown}
 use Rattle.wild_walk_laws.proofs.Entries.{grown_entry, known_entry}
-use Rattle.wild_walk_laws.proofs.Steps.{bind_ok, by_state, by_row, by_rows, by_chunk, by_open, by_end, by_location}
+use Rattle.wild_walk_laws.proofs.Steps.{started_at, opened_at, counter_at, cursor_at, bind_ok, by_state, by_row, by_rows, by_chunk, by_open, by_end, by_counter, by_cursor}
 
 -- ---- what grows
 
-abbrev IsPrefix : List PlacedLocation → List PlacedLocation → Type 0
+abbrev pub IsPrefix : List PlacedLocation → List PlacedLocation → Type 0
 IsPrefix xs ys = (zs : List PlacedLocation) × (ys ≡ xs ++ zs)
 
 -- the second state knows and lists all that the first one does
@@ -67,18 +71,24 @@ pub dot_grows : (i : ℕ) (p : Place) (st : State) → Grows st (dot_noted i p s
 unfolding dot_noted
 dot_grows i p st = record { known = grown_entry (Dot i) (dot_before p st) st.known; locations = whole st.locations }
 
+-- what is known before a section begins is known after that
+pub started_part : (i s n : ℕ) (st : State) → IsPart st.known (started_at i s n st).known
+started_part i s n st x m e = grown_entry (LoadDot i) n (with_number (Start s) n st.known) x m (grown_entry (Start s) n st.known x m e)
+
+pub opened_part : (i s n m : ℕ) (st : State) → IsPart st.known (opened_at i s n m st).known
+opened_part i s n m st x k e = grown_entry (Load s) m (started_at i s n st).known x k (started_part i s n st x k e)
+
 module _ (ground : Ground) where
   pub end_grows : (s : ℕ) (st next : State) → section_ended_alone ground s st ≡ Ok next → Grows st next
-  end_grows s st next e = by_end (Grows st) ground s st next e (λ alone. record { known = grown_entry (End s) st.cursor st.known; locations = whole st.locations })
+  end_grows s st next e = by_end (Grows st) ground s st next e (λ alone counter. record { known = grown_entry (End s) st.cursor st.known; locations = whole st.locations })
 
   pub effect_grows : (i : ℕ) (p : Place) (st next : State) → effect ground i p st ≡ Ok next → Grows st next
   unfolding effect chunk_collected section_closed section_ended_after
-  effect_grows i (SetLocation e) st next goes =
-      by_location (Grows st) ground i e st next goes (λ n value. record { known = λ x m h. h; locations = (record { statement = i; address = n } ∷ [], refl) })
-  effect_grows i (Open s x) st next goes = by_open (Grows st) ground s st next goes (λ n up. record {
-    known = λ x m h. grown_entry (Load s) n (with_number (Start s) n st.known) x m (grown_entry (Start s) n st.known x m h);
-    locations = whole st.locations;
-  })
+  effect_grows i (SetLocation None e) st next goes =
+      by_counter (Grows st) ground i e st next goes (λ n value. record { known = λ x m h. h; locations = (record { statement = i; address = n } ∷ [], refl) })
+  effect_grows i (SetLocation (Some s) e) st next goes =
+      by_cursor (Grows st) ground i s e st next goes (λ n value low. record { known = λ x m h. h; locations = (record { statement = i; address = n } ∷ [], refl) })
+  effect_grows i (Open s x) st next goes = by_open (Grows st) ground i s st next goes (λ n m begins. record { known = opened_part i s n m st; locations = whole st.locations })
   effect_grows i (Collect (Some q) m) st next goes = chunk_grows (ground.rows q) st next goes
   effect_grows i (Rows q) st next goes = chunk_grows (ground.rows q) st next goes
   effect_grows i (Close s None) st next goes = end_grows s st next goes
@@ -101,6 +111,15 @@ module _ (ground : Ground) where
   dot_known i p st next goes =
       let noted = known_entry (Dot i) (dot_before p st) st.known in
       (noted.0, (effect_grows i p (dot_noted i p st) next goes).known (Dot i) noted.0 noted.1)
+
+  -- so is the start of a section that it opens, as its load address reads it
+  pub load_dot_known : (i s : ℕ) (x : Option Section) (st next : State) → step ground i (Open s x) st ≡ Ok next → IsKnown next.known (LoadDot i)
+  unfolding step effect
+  load_dot_known i s x st next goes =
+      let noted = dot_noted i (Open s x) st in
+      by_open (λ (u : State). IsKnown u.known (LoadDot i)) ground i s noted next goes (λ n m begins.
+      let known = known_entry (LoadDot i) n (with_number (Start s) n noted.known) in
+      (known.0, grown_entry (Load s) m (started_at i s n noted).known (LoadDot i) known.0 known.1))
 
   module _ (places : List Place) (k : ℕ) (state : State) (s : Stands ground places k state) where
     -- so many places on
@@ -129,21 +148,38 @@ stayed (Ok m) s n e (inl early) = absurd early
 stayed (Ok m) s n e (inr same) = sym same ∙ e
 stayed (Err f) s n e h = absurd (cc)
 
-module _ (c : Case) (state : State) (f : IsLaid c state) (found : List PlacedSymbol) where
-  -- what a location comes to, where what grows from it on is the end
-  location_holds : (i : ℕ) (e : Expression) (st next : State) → step (ground_of c f.order) i (SetLocation e) st ≡ Ok next → Grows next state → LocationSettles c state.known (layout c state found) i e
-  unfolding step effect
-  location_holds i e st next goes =
-      by_location (λ (u : State). Grows u state → LocationSettles c state.known (layout c state found) i e) (ground_of c f.order) i e (dot_noted i (SetLocation e) st) next goes
-      (λ n value on. let known = (dot_noted i (SetLocation e) st).known in record {
-        address = n;
-        worth = stayed _ _ n value (full_values_stay (scope_of c) i known state.known on.known max_height [] e (location_point i));
-        listed = (length (dot_noted i (SetLocation e) st).locations, ap (λ (xs : List PlacedLocation). slice_get xs (length (dot_noted i (SetLocation e) st).locations)) on.locations.1 ∙ at_seam (dot_noted i (SetLocation e) st).locations on.locations.0 _);
-      })
+-- the value of an expression at a place is that over what is known in the end
+pub worth_stays : (scope : Scope) (i : ℕ) (known more : Known) (e : Expression) (p : Point) (n : ℕ) → IsPart known more → full_value scope i known [] e p ≡ Ok n → full_value scope i more [] e p ≡ Ok n
+worth_stays scope i known more e p n part value = stayed _ _ n value (full_values_stay scope i known more part max_height [] e p)
 
-pub locations_hold : (c : Case) (state : State) → IsLaid c state → (found : List PlacedSymbol) → (i : ℕ) (e : Expression) → slice_get (places_of c.commands c.inputs) i ≡ Some (SetLocation e) → LocationSettles c state.known (layout c state found) i e
-locations_hold c state f found i e there =
+module _ (c : Case) (state : State) (f : IsLaid c state) (found : List PlacedSymbol) where
+  -- what is set and listed at a place, where what grows from it on is the end
+  set_holds : (i n : ℕ) (s : Option ℕ) (e : Expression) (st next : State) → next.known ≡ st.known → next.locations ≡ st.locations ++ record { statement = i; address = n } ∷ []
+      → full_value (scope_of c) i st.known [] e (location_point i s) ≡ Ok n → Grows next state → LocationSettles c state.known (layout c state found) i s e
+  set_holds i n s e st next same list value on = record {
+    address = n;
+    worth = worth_stays (scope_of c) i st.known state.known e (location_point i s) n (subst (λ (k : Known). IsPart k state.known) same on.known) value;
+    listed = (
+      length st.locations,
+      ap (λ (xs : List PlacedLocation). slice_get xs (length st.locations)) (on.locations.1 ∙ ap (λ (xs : List PlacedLocation). xs ++ on.locations.0) list) ∙ at_seam st.locations on.locations.0 _,
+    );
+  }
+
+  location_holds : (i : ℕ) (s : Option ℕ) (e : Expression) (st next : State) → step (ground_of c f.order) i (SetLocation s e) st ≡ Ok next → Grows next state → LocationSettles c state.known (layout c state found) i s e
+  unfolding step effect
+  location_holds i None e st next goes =
+      let noted = dot_noted i (SetLocation None e) st in
+      by_counter (λ (u : State). Grows u state → LocationSettles c state.known (layout c state found) i None e) (ground_of c f.order) i e noted next goes
+      (λ n value. set_holds i n None e noted (counter_at i n noted) refl refl value)
+  location_holds i (Some s) e st next goes =
+      let noted = dot_noted i (SetLocation (Some s) e) st in
+      by_cursor (λ (u : State). Grows u state → LocationSettles c state.known (layout c state found) i (Some s) e) (ground_of c f.order) i s e noted next goes
+      (λ n value low. set_holds i n (Some s) e noted (cursor_at i n noted) refl refl value)
+
+pub locations_hold : (c : Case) (state : State) → IsLaid c state → (found : List PlacedSymbol)
+    → (i : ℕ) (s : Option ℕ) (e : Expression) → slice_get (places_of c.commands c.inputs) i ≡ Some (SetLocation s e) → LocationSettles c state.known (layout c state found) i s e
+locations_hold c state f found i s e there =
     let places = places_of c.commands c.inputs in
-    let low : i < length places = slice_get_within places i (SetLocation e) there in
-    location_holds c state f found i e (f.stands.before i) (f.stands.before (i + 1)) (f.stands.each i (SetLocation e) low there)
+    let low : i < length places = slice_get_within places i (SetLocation s e) there in
+    location_holds c state f found i s e (f.stands.before i) (f.stands.before (i + 1)) (f.stands.each i (SetLocation s e) low there)
     (to_end (ground_of c f.order) places (length places) state f.stands (i + 1) (omega (arith, low)))

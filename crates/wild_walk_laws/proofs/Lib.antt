@@ -4,9 +4,12 @@ pub mod Steps
 pub mod Growing
 pub mod Nesting
 pub mod Walked
+pub mod Fresh
 pub mod Chunked
 pub mod Standing
 pub mod Offsets
 pub mod Numbered
+pub mod SectionFacts
 pub mod Kept
+pub mod Beginning
 pub mod Settled

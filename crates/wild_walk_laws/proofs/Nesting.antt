@@ -1,22 +1,23 @@
 -- The places of a script and its orphans nest, and each section has its first chunk: by recursion over the tree, once.
-use Rattle.std.proofs.Common.{◌≡◌, ◌∙◌, ℕ, suc, ◌+◌, ◌<◌, ◌≤◌, Bool, true, false, cond, List, [], ◌∷◌, ◌++◌, length, Some, None, refl, sym, ap, subst, inl, inr, ⊎_elim, arith}
-use Rattle.std.specs.Prelude.{IfSome}
+use Rattle.std.proofs.Common.{◌≡◌, ◌∙◌, ℕ, zero, suc, ◌+◌, ◌<◌, ◌≤◌, Bool, true, false, cond, List, [], ◌∷◌, ◌++◌, length, Option, Some, None, refl, sym, ap, subst, inl, inr, ⊎_elim, arith}
+use Rattle.std.specs.Prelude.{IfSome, slice_get}
 use Rattle.std.proofs.lemmas.Bool.{cases_lt}
 use Rattle.std.proofs.lemmas.List.{length-append}
 use Rattle.wild_script_tree.specs.declared.tree.Command.TheVariants as command
 use Rattle.wild_script_tree.specs.declared.tree.ContentsCommand.{ContentsCommand}
-use Rattle.wild_script_tree.specs.declared.tree.ContentsCommand.TheVariants.{Matcher as OfMatcher}
+use Rattle.wild_script_tree.specs.declared.tree.ContentsCommand.TheVariants as contents
 use Rattle.wild_script_tree.specs.declared.tree.Command.{Command}
 use Rattle.wild_script_tree.specs.declared.tree.Section.{Section}
 use Rattle.wild_script_tree.specs.declared.tree.SectionCommand.TheVariants as inner
 use Rattle.wild_plan_spec.specs.declared.chunk.Chunk.{Chunk}
+use Rattle.wild_plan_spec.specs.declared.place.Where.TheVariants as stand
 use Rattle.wild_plan_spec.specs.declared.row.InputTable.{InputTable}
 use Rattle.wild_plan_spec.specs.Fates.{names_of, orphans_of, section_names}
 use Rattle.wild_plan_spec.specs.Names.{Name}
 use Rattle.wild_plan_spec.specs.Orphans.{orphan_places, places_of}
-use Rattle.wild_plan_spec.specs.Places.{Place, Open, Collect, Rows, Close, Idle, contents_places, rest_chunk, section_places, discarding_places, discard_places, statement_places, next_section, all_places, script_places}
+use Rattle.wild_plan_spec.specs.Places.{Task, Place, SetLocation, Wait, Open, Collect, Rows, Close, Discard, Idle, Unbuilt, contents_places, rest_chunk, section_places, discarding_places, discard_places, statement_places, next_section, all_places, script_places}
 use Rattle.wild_plan_spec.specs.Statements.{Statement, Inner, Outer, is_discard, sections_in, statement_sections, statements_of, sections_of}
-use Rattle.wild_walk_laws.specs.Nesting.{Zone, Free, Inside, Nests}
+use Rattle.wild_walk_laws.specs.Nesting.{Zone, Free, Inside, Turns, Nests}
 use Rattle.wild_walk_laws.proofs.Having.{Has, has_before, has_after}
 
 -- the place lays out the rows of the chunk
@@ -57,17 +58,18 @@ one_brings n ps nest lay = record { nest = nest; lay = λ s low high. let same :
 
 contents_nest : (s number : ℕ) (cs : List ContentsCommand) → Nests (Inside s) (contents_places s number cs) (Inside s)
 contents_nest s number [] = refl
-contents_nest s number (OfMatcher m ∷ cs) = (Inside s, (refl, refl), contents_nest s (number + 1) cs)
-contents_nest s number (c ∷ cs) = (Inside s, refl, contents_nest s number cs)
+contents_nest s number (contents.Matcher m ∷ cs) = (Inside s, (refl, refl), contents_nest s (number + 1) cs)
+contents_nest s number (contents.Constructors ∷ cs) = (Inside s, refl, contents_nest s number cs)
+contents_nest s number (c ∷ cs) = (Inside s, (refl, refl), contents_nest s number cs)
 
 rest_own : (s : ℕ) (cs : List ContentsCommand) → IfSome (rest_chunk s cs) (λ q. q.«section» ≡ s)
 rest_own s [] = refl
-rest_own s (OfMatcher m ∷ cs) = tt
+rest_own s (contents.Matcher m ∷ cs) = tt
 rest_own s (c ∷ cs) = rest_own s cs
 
 contents_lay : (s : ℕ) (cs : List ContentsCommand) → Has (Lays (first_of s)) (contents_places s 0 cs ++ Close s (rest_chunk s cs) ∷ [])
 contents_lay s [] = inl refl
-contents_lay s (OfMatcher m ∷ cs) = inl refl
+contents_lay s (contents.Matcher m ∷ cs) = inl refl
 contents_lay s (c ∷ cs) = inr (contents_lay s cs)
 
 section_brings : (s : ℕ) (x : Section) → Brings s (section_places s x) (s + 1)
@@ -83,7 +85,7 @@ section_brings s x = one_brings s (section_places s x) (
 
 discarding_nest : (n : ℕ) (cs : List ContentsCommand) → Nests (Free n) (discarding_places cs) (Free n)
 discarding_nest n [] = refl
-discarding_nest n (OfMatcher m ∷ cs) = (Free n, refl, discarding_nest n cs)
+discarding_nest n (contents.Matcher m ∷ cs) = (Free n, refl, discarding_nest n cs)
 discarding_nest n (c ∷ cs) = (Free n, refl, discarding_nest n cs)
 
 discard_nests : (n : ℕ) (x : Section) → Nests (Free n) (discard_places x) (Free n)
@@ -116,6 +118,69 @@ statements_bring n (x ∷ xs) =
     let z = numbered n x (length (statement_sections xs)) ∙ ap (λ m. n + m) (sym both) in
     subst (Brings n (all_places n (x ∷ xs))) z (both_bring (statement_places n x) (all_places (next_section n x) xs) n (next_section n x) _ (statement_brings n x) (statements_bring (next_section n x) xs))
 
+-- ---- one place among all
+
+-- a place leads between two zones, and those after it lead on to the last one
+pub record Turned (p : Place) (z : Zone) : Type 0 where
+  pub from : Zone
+  pub to : Zone
+  pub turn : Turns from p to
+  pub rest : List Place
+  pub nests : Nests to rest z
+
+pub turned : (ps : List Place) (x z : Zone) → Nests x ps z → (i : ℕ) (p : Place) → slice_get ps i ≡ Some p → Turned p z
+turned [] x z nests i p there = absurd (cc)
+turned (q ∷ ps) x z nests zero p there =
+    let same : q ≡ p = cc in
+    record { from = x; to = nests.0; turn = subst (λ (r : Place). Turns x r nests.0) same nests.1; rest = ps; nests = nests.2 }
+turned (q ∷ ps) x z nests (suc i) p there = turned ps nests.0 z nests.2 i p there
+
+-- the number of the section after it
+abbrev next_number : Zone → ℕ
+next_number (Free n) = n
+next_number (Inside s) = s + 1
+
+rises : (x y z : Zone) → next_number x ≤ next_number z → y ≡ z → next_number x ≤ next_number y
+rises x y z low e = let same = ap next_number e in omega (arith, low, same)
+
+turn_rises : (x : Zone) (p : Place) (y : Zone) → Turns x p y → next_number x ≤ next_number y
+turn_rises (Free n) (SetLocation None e) y turn = rises (Free n) y (Free n) (omega arith) turn
+turn_rises (Free n) (Wait stand.Outermost task) y turn = rises (Free n) y (Free n) (omega arith) turn
+turn_rises (Free n) (Wait stand.Between task) y turn = rises (Free n) y (Free n) (omega arith) turn
+turn_rises (Free n) (Open s x) y turn = rises (Free n) y (Inside n) (omega arith) turn.1
+turn_rises (Free n) (Collect None m) y turn = rises (Free n) y (Free n) (omega arith) turn
+turn_rises (Free n) (Discard x) y turn = rises (Free n) y (Free n) (omega arith) turn
+turn_rises (Free n) Idle y turn = rises (Free n) y (Free n) (omega arith) turn
+turn_rises (Free n) Unbuilt y turn = rises (Free n) y (Free n) (omega arith) turn
+turn_rises (Inside s) (SetLocation (Some u) e) y turn = rises (Inside s) y (Inside s) (omega arith) turn.1
+turn_rises (Inside s) (Wait (stand.Inside u) task) y turn = rises (Inside s) y (Inside s) (omega arith) turn.1
+turn_rises (Inside s) (Collect (Some q) m) y turn = rises (Inside s) y (Inside s) (omega arith) turn.1
+turn_rises (Inside s) (Rows q) y turn = rises (Inside s) y (Inside s) (omega arith) turn.1
+turn_rises (Inside s) (Close u rest) y turn = rises (Inside s) y (Free (s + 1)) (omega arith) turn.2
+turn_rises (Inside s) Idle y turn = rises (Inside s) y (Inside s) (omega arith) turn
+turn_rises x p y turn = absurd turn
+
+nests_rise : (ps : List Place) (x z : Zone) → Nests x ps z → next_number x ≤ next_number z
+nests_rise [] x z e = rises x z x (omega arith) e
+nests_rise (p ∷ ps) x z nests =
+    let first = turn_rises x p nests.0 nests.1 in
+    let rest = nests_rise ps nests.0 z nests.2 in
+    omega (arith, first, rest)
+
+opens_below : (x : Zone) (s : ℕ) (o : Option Section) (y : Zone) → Turns x (Open s o) y → s < next_number y
+opens_below (Free n) s o y turn =
+    let same = turn.0 in
+    let next = ap next_number turn.1 in
+    omega (arith, same, next)
+opens_below (Inside u) s o y turn = absurd turn
+
+holds_below : (x : Zone) (s : ℕ) (task : Task) (y : Zone) → Turns x (Wait (stand.Inside s) task) y → s < next_number y
+holds_below (Free n) s task y turn = absurd turn
+holds_below (Inside u) s task y turn =
+    let same = turn.0 in
+    let next = ap next_number turn.1 in
+    omega (arith, same, next)
+
 -- ---- orphans
 
 orphan_brings : (n : ℕ) → Brings n (Open n None ∷ Rows (first_of n) ∷ Close n None ∷ []) (n + 1)
@@ -146,6 +211,22 @@ module _ (t : List Command) (inputs : InputTable) where
 
   pub places_nest : Nests (Free 0) (places_of t inputs) (Free (length (section_names t inputs)))
   places_nest = all_bring.nest
+
+  -- a place opens one of the sections
+  pub opened_below : (i s : ℕ) (x : Option Section) → slice_get (places_of t inputs) i ≡ Some (Open s x) → s < length (section_names t inputs)
+  opened_below i s x there =
+      let at = turned (places_of t inputs) (Free 0) (Free (length (section_names t inputs))) places_nest i (Open s x) there in
+      let low = opens_below at.from s x at.to at.turn in
+      let high = nests_rise at.rest at.to (Free (length (section_names t inputs))) at.nests in
+      omega (arith, low, high)
+
+  -- a task in the contents of a section stands in one of them
+  pub held_below : (i s : ℕ) (task : Task) → slice_get (places_of t inputs) i ≡ Some (Wait (stand.Inside s) task) → s < length (section_names t inputs)
+  held_below i s task there =
+      let at = turned (places_of t inputs) (Free 0) (Free (length (section_names t inputs))) places_nest i (Wait (stand.Inside s) task) there in
+      let low = holds_below at.from s task at.to at.turn in
+      let high = nests_rise at.rest at.to (Free (length (section_names t inputs))) at.nests in
+      omega (arith, low, high)
 
   -- a place lays out the first chunk of each section
   pub first_laid : (s : ℕ) → s < length (section_names t inputs) → Has (Lays (first_of s)) (places_of t inputs)

@@ -8,8 +8,9 @@ use Rattle.wild_names.specs.declared.fault.Fault.TheVariants.{AssertFailed}
 use Rattle.wild_expression_tree.specs.declared.tree.AssertCommand.{AssertCommand}
 use Rattle.wild_expression_tree.specs.declared.tree.Expression.{Expression}
 use Rattle.wild_script_tree.specs.declared.tree.ProvideSymbolDefinition.{ProvideSymbolDefinition}
+use Rattle.wild_script_tree.specs.declared.tree.Section.{Section}
 use Rattle.wild_value_spec.specs.declared.value.Value.{Value}
-use Rattle.wild_value_spec.specs.Known.{Known}
+use Rattle.wild_value_spec.specs.Known.{Known, Start, Load}
 use Rattle.wild_value_spec.specs.Marks.{max_height, over}
 use Rattle.wild_value_spec.specs.Scope.{Scope, definition_of}
 use Rattle.wild_value_spec.specs.Value.{assert_statement, assert_value, full_value, value}
@@ -17,17 +18,22 @@ use Rattle.wild_plan_spec.specs.declared.place.Where.{Where}
 use Rattle.wild_plan_spec.specs.declared.placed.PlacedSymbol.{PlacedSymbol}
 use Rattle.wild_plan_spec.specs.Case.{Case}
 use Rattle.wild_plan_spec.specs.Conditions.{conditions, place_holds, task_holds}
+use Rattle.wild_plan_spec.specs.Facts.{facts_at, facts_of}
 use Rattle.wild_plan_spec.specs.Fates.{fates_of}
 use Rattle.wild_plan_spec.specs.Fit.{Fits}
-use Rattle.wild_plan_spec.specs.Layout.{Layout}
+use Rattle.wild_plan_spec.specs.Layout.{Layout, placed_section}
 use Rattle.wild_plan_spec.specs.Names.{Name}
 use Rattle.wild_plan_spec.specs.Orphans.{places_of}
-use Rattle.wild_plan_spec.specs.Places.{Place, SetLocation, Wait, Assign, Provide, Check}
+use Rattle.wild_plan_spec.specs.Places.{Place, SetLocation, Wait, Open, Assign, Provide, Check}
 use Rattle.wild_plan_spec.specs.Points.{task_point}
 use Rattle.wild_plan_spec.specs.Scopes.{scope_of}
-use Rattle.wild_plan_spec.specs.Settled.{ConditionSettles, IsListed, IsSettled, LocationSettles, SymbolSettles}
+use Rattle.wild_plan_spec.specs.Settled.{ConditionSettles, IsListed, IsSettled, LoadSettles, LocationSettles, StartSettles, SymbolSettles}
 use Rattle.wild_plan_spec.specs.Symbols.{assignment_symbol, is_at, listed_symbol, place_symbol, script_symbol, symbols, table_symbols, task_symbol}
+use Rattle.wild_walk_laws.proofs.Beginning.{sections_begin}
+use Rattle.wild_walk_laws.proofs.Entries.{known_number}
 use Rattle.wild_walk_laws.proofs.Growing.{locations_hold}
+use Rattle.wild_walk_laws.proofs.Nesting.{opened_below}
+use Rattle.wild_walk_laws.proofs.SectionFacts.{section_there}
 use Rattle.wild_walk_laws.proofs.Steps.{bind_ok}
 
 -- ---- lists
@@ -87,7 +93,7 @@ module _ (scope : Scope) (known : Known) where
   record Worth (i : ℕ) (w : Where) (name : Name) (e : Expression) (hidden : Bool) (found : List PlacedSymbol) : Type 0 where
     address : ℕ
     worth : full_value scope i known (name ∷ []) e (task_point i w) ≡ Ok address
-    listed : IsListed (script_symbol name hidden address) found
+    listed : IsListed (script_symbol w name hidden address) found
 
   listed_worth : (i : ℕ) (w : Where) (name : Name) (e : Expression) (hidden : Bool) (p : Place) (found : List PlacedSymbol)
       → place_symbol scope known i p ≡ listed_symbol scope known i w name e hidden → Lists i p found → Worth i w name e hidden found
@@ -95,8 +101,8 @@ module _ (scope : Scope) (known : Known) where
   listed_worth i w name e hidden p found is lists =
       let first = bind_ok (full_value scope i known (name ∷ []) e (task_point i w)) _ lists.0 (sym is ∙ lists.1) in
       let both = first.2 in
-      let same : lists.0 ≡ Some (script_symbol name hidden first.0) = cc in
-      record { address = first.0; worth = first.1; listed = lists.2 (script_symbol name hidden first.0) same }
+      let same : lists.0 ≡ Some (script_symbol w name hidden first.0) = cc in
+      record { address = first.0; worth = first.1; listed = lists.2 (script_symbol w name hidden first.0) same }
 
   nonzero_by : (b : Bool) (x : Value) (f : Fault) (v : Value) → (x.number == 0) ≡ b → cond b (Err f) (Ok (over x.number x)) ≡ Ok v → v.number ≢ 0
   nonzero_by true x f v is e = absurd (cc)
@@ -139,7 +145,7 @@ module _ (c : Case) (plan : Layout) (f : Fits c plan) where
   symbol_settles i w name e hidden worth = record {
     address = worth.address;
     worth = worth.worth;
-    listed = rw f.listed (listed_after (script_symbol name hidden worth.address) (table_symbols known (fates_of c.commands c.inputs) c.inputs.symbols) f.found worth.listed);
+    listed = rw f.listed (listed_after (script_symbol w name hidden worth.address) (table_symbols known (fates_of c.commands c.inputs) c.inputs.symbols) f.found worth.listed);
   }
 
   assignment_settles : (i : ℕ) (w : Where) (name : Name) (e : Expression) → slice_get places i ≡ Some (Wait w (Assign name e)) → name ≢ [] → SymbolSettles c known plan i w name e false
@@ -169,8 +175,37 @@ module _ (c : Case) (plan : Layout) (f : Fits c plan) where
       let found = bind_ok (assert_statement scope i known k (task_point i w)) (λ x. Ok tt) tt holds in
       record { value = found.0; worth = found.1; holds = condition_nonzero scope known i w k found.0 found.1 }
 
-  location_settles : (i : ℕ) (e : Expression) → slice_get places i ≡ Some (SetLocation e) → LocationSettles c known plan i e
-  location_settles i e there = subst (λ (p : Layout). LocationSettles c f.state.known p i e) (sym f.listed) (locations_hold c f.state f.laid f.found i e there)
+  location_settles : (i : ℕ) (s : Option ℕ) (e : Expression) → slice_get places i ≡ Some (SetLocation s e) → LocationSettles c known plan i s e
+  location_settles i s e there = subst (λ (p : Layout). LocationSettles c f.state.known p i s e) (sym f.listed) (locations_hold c f.state f.laid f.found i s e there)
+
+  -- the section that place i opens is listed
+  opened_listed : (i s : ℕ) (x : Option Section) → slice_get places i ≡ Some (Open s x) → slice_get plan.sections s ≡ Some (placed_section known s (facts_at (facts_of c.commands c.inputs) s))
+  opened_listed i s x there = ap (λ (p : Layout). slice_get p.sections s) f.listed ∙ section_there c known s (opened_below c.commands c.inputs i s x there)
+
+  start_settles : (i s : ℕ) (x : Option Section) (e : Expression) → slice_get places i ≡ Some (Open s x) → (facts_at (facts_of c.commands c.inputs) s).start ≡ Some e → StartSettles c known plan i s e
+  start_settles i s x e there said =
+      let begun = sections_begin c f.state f.laid i s x there in
+      record {
+        placed = placed_section known s (facts_at (facts_of c.commands c.inputs) s);
+        listed = opened_listed i s x there;
+        worth = begun.start_worth e said ∙ ap Ok (sym (known_number known (Start s) begun.start begun.starts));
+      }
+
+  load_settles : (i s : ℕ) (x : Option Section) (e : Expression) → slice_get places i ≡ Some (Open s x) → (facts_at (facts_of c.commands c.inputs) s).load ≡ Some e → LoadSettles c known plan i s e
+  load_settles i s x e there said =
+      let begun = sections_begin c f.state f.laid i s x there in
+      record {
+        placed = placed_section known s (facts_at (facts_of c.commands c.inputs) s);
+        listed = opened_listed i s x there;
+        worth = begun.load_worth e said ∙ ap Ok (sym (known_number known (Load s) begun.load begun.loads));
+      }
 
   pub settles : IsSettled c known plan
-  settles = record { locations = location_settles; assignments = assignment_settles; provides = provide_settles; conditions = condition_settles }
+  settles = record {
+    starts = start_settles;
+    loads = load_settles;
+    locations = location_settles;
+    assignments = assignment_settles;
+    provides = provide_settles;
+    conditions = condition_settles;
+  }

@@ -8,7 +8,7 @@ use Rattle.std.specs.declared.cmp.Ordering.{Ordering}
 use Rattle.std.specs.declared.cmp.Ordering.TheVariants.{Less, Equal, Greater}
 use Rattle.std.proofs.lemmas.Bool.{cases_lt, lt-ltb, eqb-true}
 use Rattle.std.proofs.lemmas.List.Elements.{All-nil, All-cons, All-head, All-tail, All-weaker}
-use Rattle.wild_value_spec.specs.Known.{Known, Start, Load, End, Address, Dot, with_number}
+use Rattle.wild_value_spec.specs.Known.{Known, End, Address, Dot, with_number}
 use Rattle.wild_plan_spec.specs.declared.chunk.ChunkRow.{ChunkRow}
 use Rattle.wild_plan_spec.specs.declared.chunk.Kept.{Kept}
 use Rattle.wild_plan_spec.specs.declared.row.InputRow.{InputRow}
@@ -23,6 +23,7 @@ use Rattle.wild_plan_spec.proofs.RowOrder.{stands_weakly}
 use Rattle.wild_walk_laws.specs.Holding.{StandInPlace}
 use Rattle.wild_walk_laws.proofs.Chunked.{IsRow, chunk_rows}
 use Rattle.wild_walk_laws.proofs.Entries.{other_entry, entry_is}
+use Rattle.wild_walk_laws.proofs.Fresh.{opened_address}
 use Rattle.wild_walk_laws.proofs.Steps.{IsMultiple, lower_power, sum_multiple, noted_at, opened_at, ended_at, bind_ok, by_state, by_row, by_chunk}
 use Rattle.wild_walk_laws.proofs.Walked.{laid_walked}
 
@@ -101,9 +102,10 @@ rows_stand_in_place c state f =
     laid_walked c state f (λ z st. StandInPlace rows st.known)
     (record {
       noted = λ z i n st h. stays rows fates st.known (noted_at i n st).known (λ r. other_entry (Dot i) n st.known (Address r) refl) h;
-      located = λ n counter locations st h. h;
-      opened = λ s n st up h. stays rows fates st.known (opened_at s n st).known (λ r. other_entry (Load s) n (with_number (Start s) n st.known) (Address r) refl ∙ other_entry (Start s) n st.known (Address r) refl) h;
+      located = λ n i m st h. h;
+      moved = λ s i n e st there low h. h;
+      opened = λ i s n m st begins h. stays rows fates st.known (opened_at i s n m st).known (opened_address i s n m st) h;
       placed = λ s q st next own goes h. chunk_stands rows fates (f.order q) st next (λ i d low. (chunk_rows rows fates q (f.order q) (f.ordered q) i d low).0) (f.ordered q).sorted goes h;
-      ended = λ s st alone h. stays rows fates st.known (ended_at s st).known (λ r. other_entry (End s) st.cursor st.known (Address r) refl) h;
+      ended = λ s counter st alone h. stays rows fates st.known (ended_at s counter st).known (λ r. other_entry (End s) st.cursor st.known (Address r) refl) h;
     })
     (λ r row a there at. absurd (cc))

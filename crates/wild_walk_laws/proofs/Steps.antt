@@ -1,7 +1,7 @@
 -- What steps come to: their numbers, and the state after each.
-use Rattle.std.proofs.Common.{◌≡◌, ◌∙◌, ℕ, ◌+◌, ◌-◌, ◌%◌, ◌^◌, ◌<◌, ◌≤◌, Bool, true, false, cond, List, [], ◌∷◌, ◌++◌, Option, None, Some, Result, Ok, Err, refl, sym, ap, subst, arith}
+use Rattle.std.proofs.Common.{◌≡◌, ◌∙◌, ℕ, ◌+◌, ◌-◌, ◌%◌, ◌^◌, ◌<◌, ◌≤◌, nat_lt, Bool, true, false, cond, List, [], ◌∷◌, ◌++◌, Option, None, Some, Result, Ok, Err, refl, sym, ap, subst, arith}
 use Rattle.std.specs.List.{All}
-use Rattle.std.proofs.lemmas.Bool.{ltb-true}
+use Rattle.std.proofs.lemmas.Bool.{ltb-true, ltb-false}
 use Rattle.std.proofs.lemmas.List.Elements.{All-head, All-tail}
 use Rattle.std.proofs.Math.Nat.{zero-mod, mod-add-mod}
 use Rattle.std.proofs.Math.Pow.{mod-mod-pow}
@@ -10,14 +10,13 @@ use Rattle.wild_ids.specs.Alignment.{rounded_up}
 use Rattle.wild_names.specs.declared.fault.Fault.{Fault}
 use Rattle.wild_expression_tree.specs.declared.tree.Expression.{Expression}
 use Rattle.wild_value_spec.specs.Answer.{◌>>=◌}
-use Rattle.wild_value_spec.specs.Known.{Start, Load, End, Address, Dot, number_at, with_number}
+use Rattle.wild_value_spec.specs.Known.{Start, Load, End, Address, Dot, LoadDot, with_number}
 use Rattle.wild_value_spec.specs.Value.{sum_of, full_value}
 use Rattle.wild_plan_spec.specs.declared.chunk.ChunkRow.{ChunkRow}
 use Rattle.wild_plan_spec.specs.Chunks.{largest}
 use Rattle.wild_plan_spec.specs.Ground.{Ground}
-use Rattle.wild_plan_spec.specs.Overlaps.{lowest_sharing}
-use Rattle.wild_plan_spec.specs.Points.{location_point}
-use Rattle.wild_plan_spec.specs.Steps.{State, up, row_placed, rows_placed, chunk_placed, section_opened, section_ended, section_closed_by, section_ended_alone, location_set}
+use Rattle.wild_plan_spec.specs.Points.{location_point, start_point, load_point}
+use Rattle.wild_plan_spec.specs.Steps.{State, up, row_placed, rows_placed, chunk_placed, start_by, start_found, section_started, load_by, load_found, section_loaded, section_begun, section_opened, cursor_set, section_ended, section_closed_by, overlapped, section_ended_alone, counter_set}
 
 -- ---- multiples
 
@@ -68,17 +67,44 @@ sum_is a b n h =
 abbrev pub noted_at : ℕ → ℕ → State → State
 noted_at i n st = record st { known = with_number (Dot i) n st.known }
 
--- section s starts, and is loaded, at n
-abbrev pub opened_at : ℕ → ℕ → State → State
-opened_at s n st = record st { cursor = n; known = with_number (Load s) n (with_number (Start s) n st.known) }
+-- section s, which place i opens, starts at n
+abbrev pub started_at : ℕ → ℕ → ℕ → State → State
+started_at i s n st = record st { known = with_number (LoadDot i) n (with_number (Start s) n st.known) }
+
+-- and is loaded at m
+abbrev pub opened_at : ℕ → ℕ → ℕ → ℕ → State → State
+opened_at i s n m st = record st { cursor = n; known = with_number (Load s) m (started_at i s n st).known }
+
+-- place i sets the counter, or the cursor, to n
+abbrev pub counter_at : ℕ → ℕ → State → State
+counter_at i n st = record st { counter = n; locations = st.locations ++ record { statement = i; address = n } ∷ [] }
+
+abbrev pub cursor_at : ℕ → ℕ → State → State
+cursor_at i n st = record st { cursor = n; locations = st.locations ++ record { statement = i; address = n } ∷ [] }
 
 -- a row stands at the cursor, which goes on to n
 abbrev pub row_at : ChunkRow → ℕ → State → State
 row_at c n st = record st { cursor = n; known = with_number (Address c.row) st.cursor st.known }
 
--- section s ends at the cursor, and so does the counter
-abbrev pub ended_at : ℕ → State → State
-ended_at s st = record st { counter = st.cursor; known = with_number (End s) st.cursor st.known }
+-- section s ends at the cursor, and the counter is this
+abbrev pub ended_at : ℕ → ℕ → State → State
+ended_at s counter st = record st { counter = counter; known = with_number (End s) st.cursor st.known }
+
+-- place i opens section s, which starts at n and is loaded at m
+pub record Begins (ground : Ground) (i s n m : ℕ) (st : State) : Type 0 where
+  pub starts : (e : Expression) → (ground.facts s).start ≡ Some e → full_value ground.scope i st.known [] e (start_point i) ≡ Ok n
+  pub floats : (ground.facts s).start ≡ None → (ground.facts s).floating ≡ true → n ≡ 0
+  pub rounds : (ground.facts s).start ≡ None → (ground.facts s).floating ≡ false → IsUp st.counter (ground.facts s).alignment n
+  pub loads : (e : Expression) → (ground.facts s).load ≡ Some e → full_value ground.scope i (started_at i s n st).known [] e (load_point i) ≡ Ok m
+  pub stays : (ground.facts s).load ≡ None → m ≡ n
+
+floated_by : (b : Bool) (r : Result ℕ Fault) (n : ℕ) → cond b (Ok 0) r ≡ Ok n → b ≡ true → n ≡ 0
+floated_by true r n h e = let same : 0 ≡ n = cc in sym same
+floated_by false r n h e = absurd (cc)
+
+rounded_by : (b : Bool) (x e n : ℕ) → cond b (Ok 0) (up x e) ≡ Ok n → b ≡ false → IsUp x e n
+rounded_by true x e n h f = absurd (cc)
+rounded_by false x e n h f = up_is x e n h
 
 pub bind_ok : {A B E : Type 0} (x : Result A E) (f : A → Result B E) (y : B) → (x >>= f) ≡ Ok y → (a : A) × (x ≡ Ok a) × (f a ≡ Ok y)
 bind_ok (Ok a) f y h = (a, refl, h)
@@ -114,27 +140,46 @@ module _ (P : State → Type 0) where
       h first.0 (up_is st.cursor (largest cs) first.0 first.1) first.2
 
   module _ (ground : Ground) where
-    pub by_open : (s : ℕ) (st next : State) → section_opened ground s st ≡ Ok next
-        → ((n : ℕ) → IsUp st.counter (ground.facts s).alignment n → P (opened_at s n st)) → P next
-    unfolding section_opened
-    by_open s st next e h =
-        let first = bind_ok (up st.counter (ground.facts s).alignment) _ next e in
-        by_state (opened_at s first.0 st) next first.2 (h first.0 (up_is st.counter (ground.facts s).alignment first.0 first.1))
+    pub by_open : (i s : ℕ) (st next : State) → section_opened ground i s st ≡ Ok next → ((n m : ℕ) → Begins ground i s n m st → P (opened_at i s n m st)) → P next
+    unfolding section_opened start_found section_begun section_started load_found section_loaded
+    by_open i s st next e h =
+        let f = ground.facts s in
+        let first = bind_ok (start_by ground i f f.start st) _ next e in
+        let n = first.0 in
+        let second = bind_ok (load_by ground i f.load n (started_at i s n st)) _ next first.2 in
+        let start = λ (o : Option Expression) (same : f.start ≡ o). subst (λ p. start_by ground i f p st ≡ Ok n) same first.1 in
+        let load = λ (o : Option Expression) (same : f.load ≡ o). subst (λ p. load_by ground i p n (started_at i s n st) ≡ Ok second.0) same second.1 in
+        by_state (opened_at i s n second.0 st) next second.2 (h n second.0 (record {
+          starts = λ x same. start (Some x) same;
+          floats = λ none b. floated_by f.floating (up st.counter f.alignment) n (start None none) b;
+          rounds = λ none b. rounded_by f.floating st.counter f.alignment n (start None none) b;
+          loads = λ x same. load (Some x) same;
+          stays = λ none. let same : Ok n ≡ Ok second.0 = load None none in cc;
+        }))
 
-    by_sharing : (s : ℕ) (o : Option ℕ) (st next : State) → section_closed_by ground s o st ≡ Ok next → (o ≡ None → P (ended_at s st)) → P next
+    by_sharing : (s : ℕ) (o : Option ℕ) (st next : State) → section_closed_by ground s o st ≡ Ok next → (o ≡ None → (counter : ℕ) → P (ended_at s counter st)) → P next
     unfolding section_ended
-    by_sharing s None st next e h = by_state (ended_at s st) next e (h refl)
+    by_sharing s None st next e h = let counter = cond (ground.facts s).floating st.counter st.cursor in by_state (ended_at s counter st) next e (h refl counter)
     by_sharing s (Some other) st next e h = absurd (cc)
 
-    pub by_end : (s : ℕ) (st next : State) → section_ended_alone ground s st ≡ Ok next
-        → (lowest_sharing st.known (number_at st.known (Start s)) st.cursor s ≡ None → P (ended_at s st)) → P next
+    pub by_end : (s : ℕ) (st next : State) → section_ended_alone ground s st ≡ Ok next → (overlapped ground s st ≡ None → (counter : ℕ) → P (ended_at s counter st)) → P next
     unfolding section_ended_alone
     by_end s st next e h = by_sharing s _ st next e h
 
-    pub by_location : (i : ℕ) (e : Expression) (st next : State) → location_set ground i e st ≡ Ok next
-        → ((n : ℕ) → full_value ground.scope i st.known [] e (location_point i) ≡ Ok n
-        → P (record st { counter = n; locations = st.locations ++ record { statement = i; address = n } ∷ [] })) → P next
-    unfolding location_set
-    by_location i e st next goes h =
-        let first = bind_ok (full_value ground.scope i st.known [] e (location_point i)) _ next goes in
-        by_state (record st { counter = first.0; locations = st.locations ++ record { statement = i; address = first.0 } ∷ [] }) next first.2 (h first.0 first.1)
+    pub by_counter : (i : ℕ) (e : Expression) (st next : State) → counter_set ground i e st ≡ Ok next
+        → ((n : ℕ) → full_value ground.scope i st.known [] e (location_point i None) ≡ Ok n → P (counter_at i n st)) → P next
+    unfolding counter_set
+    by_counter i e st next goes h =
+        let first = bind_ok (full_value ground.scope i st.known [] e (location_point i None)) _ next goes in
+        by_state (counter_at i first.0 st) next first.2 (h first.0 first.1)
+
+    by_move : (b : Bool) (f : Fault) (after next : State) → cond b (Err f) (Ok after) ≡ Ok next → (b ≡ false → P after) → P next
+    by_move true f after next e h = absurd (cc)
+    by_move false f after next e h = by_state after next e (h refl)
+
+    pub by_cursor : (i s : ℕ) (e : Expression) (st next : State) → cursor_set ground i s e st ≡ Ok next
+        → ((n : ℕ) → full_value ground.scope i st.known [] e (location_point i (Some s)) ≡ Ok n → st.cursor ≤ n → P (cursor_at i n st)) → P next
+    unfolding cursor_set
+    by_cursor i s e st next goes h =
+        let first = bind_ok (full_value ground.scope i st.known [] e (location_point i (Some s))) _ next goes in
+        by_move (nat_lt first.0 st.cursor) _ (cursor_at i first.0 st) next first.2 (λ low. h first.0 first.1 (ltb-false first.0 st.cursor low))

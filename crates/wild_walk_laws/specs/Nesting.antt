@@ -1,5 +1,6 @@
 -- Where places stand: between sections, or in one. Each leads from where it stands to where the next one does.
 use Rattle.std.specs.Prelude.{◌≡◌, ℕ, ◌+◌, List, [], ◌∷◌, Some, None, IfSome}
+use Rattle.wild_plan_spec.specs.declared.place.Where.TheVariants as stand
 use Rattle.wild_plan_spec.specs.Places.{Place, SetLocation, Wait, Open, Collect, Rows, Close, Discard, Idle, Unbuilt}
 
 -- where a place stands
@@ -9,19 +10,22 @@ pub data Zone : Type 0 where
   -- in the section of this number
   Inside : ℕ → Zone
 
--- a place leads from the one zone to the other: a section begins between sections, its chunks are its own, and it ends
+-- a place leads from the one zone to the other: a section begins between sections, what stands in it is its own, and it ends
 abbrev pub Turns : Zone → Place → Zone → Type 0
-Turns (Free n) (SetLocation e) z = z ≡ Free n
-Turns (Free n) (Wait w task) z = z ≡ Free n
+Turns (Free n) (SetLocation None e) z = z ≡ Free n
+Turns (Free n) (Wait stand.Outermost task) z = z ≡ Free n
+Turns (Free n) (Wait stand.Between task) z = z ≡ Free n
 Turns (Free n) (Open s x) z = (s ≡ n) × (z ≡ Inside n)
 Turns (Free n) (Collect None m) z = z ≡ Free n
 Turns (Free n) (Discard x) z = z ≡ Free n
 Turns (Free n) Idle z = z ≡ Free n
 Turns (Free n) Unbuilt z = z ≡ Free n
+Turns (Inside s) (SetLocation (Some u) e) z = (u ≡ s) × (z ≡ Inside s)
+Turns (Inside s) (Wait (stand.Inside u) task) z = (u ≡ s) × (z ≡ Inside s)
 Turns (Inside s) (Collect (Some q) m) z = (q.«section» ≡ s) × (z ≡ Inside s)
 Turns (Inside s) (Rows q) z = (q.«section» ≡ s) × (z ≡ Inside s)
 Turns (Inside s) (Close u rest) z = (u ≡ s) × IfSome rest (λ q. q.«section» ≡ s) × (z ≡ Free (s + 1))
-Turns (Inside s) Unbuilt z = z ≡ Inside s
+Turns (Inside s) Idle z = z ≡ Inside s
 Turns x p z = ⊥
 
 -- places lead, one after the other, from the one zone to the other

@@ -1,6 +1,6 @@
 //! Laws about places, and about layouts of all of them.
 
-ghost use Rattle.std.specs.Prelude.{◌≡◌, ℕ, ◌+◌, ◌^◌, ◌<◌, List, Some, length, slice_get};
+ghost use Rattle.std.specs.Prelude.{◌≡◌, ℕ, ◌+◌, ◌^◌, ◌<◌, List, Option, Some, length, slice_get};
 ghost use Rattle.wild_expression_tree.specs.declared.tree.Expression.{Expression};
 ghost use Rattle.wild_plan_spec.specs.declared.chunk.Kept.{Kept};
 ghost use Rattle.wild_plan_spec.specs.declared.placed.PlacedSymbol.{PlacedSymbol};
@@ -20,16 +20,17 @@ ghost use Rattle.wild_walk_laws.specs.Holding.{IsKnown, StandInPlace};
 ghost use Rattle.wild_walk_laws.specs.Nesting.{Free, Nests};
 
 /// The places of a script and its orphans open and close all sections in the order of their numbers, one after the
-/// other, and the rows of a chunk stand in its section.
+/// other, and what stands in the contents of a section stands between them: the rows of its chunks too.
 pub fn places_nest()
     ensures { (t : List Command) (inputs : InputTable) → Nests (Free 0) (places_of t inputs) (Free (length (section_names t inputs))) }
 {}
 
-/// Where all places are laid out, each statement of the location counter in SECTIONS is listed with the value that its
-/// expression has over the finished layout, whatever symbols are found then.
+/// Where all places are laid out, each statement of the location counter in SECTIONS, in the contents of a section too, is
+/// listed with the value that its expression has over the finished layout, whatever symbols are found then.
 pub fn locations_hold()
     ensures { (c : Case) (state : State) → IsLaid c state → (found : List PlacedSymbol)
-        → (i : ℕ) (e : Expression) → slice_get (places_of c.commands c.inputs) i ≡ Some (SetLocation e) → LocationSettles c state.known (layout c state found) i e }
+        → (i : ℕ) (s : Option ℕ) (e : Expression) → slice_get (places_of c.commands c.inputs) i ≡ Some (SetLocation s e)
+        → LocationSettles c state.known (layout c state found) i s e }
 {}
 
 /// Where all places are laid out, each row whose address is known stands at a multiple of its alignment and ends below
@@ -51,8 +52,8 @@ pub fn kept_rows_have_addresses()
         → (r : ℕ) (k : Kept) → slice_get (fates_of c.commands c.inputs) r ≡ Some (Some k) → IsKnown state.known (Address r) }
 {}
 
-/// In a plan that fits, each location and each symbol of the script is listed with what its expression is worth over the
-/// finished table, and no condition is 0.
+/// In a plan that fits, each location and each symbol of the script, and each section with a start expression or an AT
+/// clause, is listed with what its expression is worth over the finished table, and no condition is 0.
 pub fn plans_are_settled()
     ensures { (c : Case) (plan : Layout) → (f : Fits c plan) → IsSettled c f.state.known plan }
 {}
