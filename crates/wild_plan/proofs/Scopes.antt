@@ -9,6 +9,7 @@ use Rattle.wild_value_spec.specs.Scope.{Definition, Scope, line_of}
 use Rattle.wild_eval.specs.declared.definition.SymbolEntry.{SymbolEntry}
 use Rattle.wild_eval.specs.Scope as kept
 use Rattle.wild_fates.specs.Targets.{targets}
+use Rattle.wild_script_tree.specs.declared.tree.Section.{Section}
 use Rattle.wild_plan_spec.specs.declared.chunk.Chunk.{Chunk}
 use Rattle.wild_plan_spec.specs.declared.chunk.ChunkRow.{ChunkRow}
 use Rattle.wild_plan_spec.specs.declared.chunk.Kept.{Kept}
@@ -20,6 +21,7 @@ use Rattle.wild_plan_spec.specs.Fates.{section_names, fates_of}
 use Rattle.wild_plan_spec.specs.Ground.{Ground, ground_of}
 use Rattle.wild_plan_spec.specs.Names.{Bytes, Name, or_empty}
 use Rattle.wild_plan_spec.specs.Scopes.{entries_of, scope_of}
+use Rattle.wild_plan_spec.specs.Statements.{sections_of}
 use Rattle.wild_plan.specs.declared.facts.Facts.{Facts}
 use Rattle.wild_plan.specs.Entries.{shown_entries}
 use Rattle.wild_plan.specs.Facts.{alignments_in, shown_all, shown_or_none}
@@ -31,10 +33,10 @@ name_same [] s = refl
 name_same (x ∷ xs) zero = refl
 name_same (x ∷ xs) (suc s) = name_same xs s
 
-name_said : (rows : List InputRow) (fates : List (Option Kept)) (n : ℕ) (xs : List Name) (s : ℕ) → (spec.facts_at (spec.facts_from rows fates n xs) s).name ≡ or_empty (slice_get xs s)
-name_said rows fates n [] s = refl
-name_said rows fates n (x ∷ xs) zero = refl
-name_said rows fates n (x ∷ xs) (suc s) = name_said rows fates (n + 1) xs s
+name_said : (sections : List Section) (rows : List InputRow) (fates : List (Option Kept)) (n : ℕ) (xs : List Name) (s : ℕ) → (spec.facts_at (spec.facts_from sections rows fates n xs) s).name ≡ or_empty (slice_get xs s)
+name_said sections rows fates n [] s = refl
+name_said sections rows fates n (x ∷ xs) zero = refl
+name_said sections rows fates n (x ∷ xs) (suc s) = name_said sections rows fates (n + 1) xs s
 
 alignment_said : (fs : List spec.Facts) (s : ℕ) → unwrap_or (slice_get (alignments_in fs) s) 0 ≡ (spec.facts_at fs s).alignment
 alignment_said [] s = refl
@@ -79,7 +81,7 @@ module _ (c : Case) where
   names_said sections a s =
       name_same sections s
       ∙ ap (λ (xs : List Name). or_empty (slice_get xs s)) a
-      ∙ sym (name_said c.inputs.rows (fates_of c.commands c.inputs) 0 (section_names c.commands c.inputs) s)
+      ∙ sym (name_said (sections_of c.commands) c.inputs.rows (fates_of c.commands c.inputs) 0 (section_names c.commands c.inputs) s)
 
   scope_said : (sections : List (Bor Name)) (numbers : List Name) (alignments : List ℕ) (symbols : List Name) (entries : List SymbolEntry)
       → targets sections ≡ section_names c.commands c.inputs → numbers ≡ section_names c.commands c.inputs → alignments ≡ alignments_in said

@@ -1,5 +1,6 @@
 -- What is kept of sections says what their rows say.
 use Rattle.std.proofs.Common.{◌≡◌, ℕ, ◌+◌, List, [], ◌∷◌, ◌++◌, refl, ap, Option}
+use Rattle.wild_script_tree.specs.declared.tree.Section.{Section}
 use Rattle.wild_plan_spec.specs.declared.chunk.Kept.{Kept}
 use Rattle.wild_plan_spec.specs.declared.row.InputRow.{InputRow}
 use Rattle.wild_plan_spec.specs.Chunks.{section_rows}
@@ -16,6 +17,6 @@ all_append (x ∷ xs) ys = ap (λ zs. shown_facts x ∷ zs) (all_append xs ys)
 
 -- by their traits as by their rows
 module _ (rows : List InputRow) (fates : List (Option Kept)) (traits : ℕ → Traits) (same : (s : ℕ) → traits s ≡ traits_of (section_rows s rows fates)) where
-  pub facts_same : (s : ℕ) (xs : List Name) → facts_with traits s xs ≡ facts_from rows fates s xs
-  facts_same s [] = refl
-  facts_same s (x ∷ xs) = rw (same s, facts_same (s + 1) xs) refl
+  pub facts_same : (sections : List Section) (s : ℕ) (xs : List Name) → facts_with sections traits s xs ≡ facts_from sections rows fates s xs
+  facts_same sections s [] = refl
+  facts_same sections s (x ∷ xs) = rw (same s, facts_same sections (s + 1) xs) refl

@@ -1,6 +1,6 @@
 //! What a script and its table say of each section, before any address is known.
 
-ghost use Rattle.std.specs.Prelude.{◌≡◌, ◌∷◌, ◌++◌, [], OnOk, IfOk, length};
+ghost use Rattle.std.specs.Prelude.{◌≡◌, ◌∷◌, ◌++◌, [], OnOk, IfOk, Some, None, length, slice_get};
 ghost use Rattle.std.specs.Option.{option_copied, option_map};
 ghost use Rattle.wild_plan_spec.specs.Facts as spec;
 ghost use Rattle.wild_value_spec.specs.Const.{const};
@@ -112,30 +112,53 @@ fn flag(set: bool, flag: InputFlags) -> InputFlags
 fn flags_by(attributes: Option<SectionAttributes>, traits: Traits) -> InputFlags
     ensures { result ≡ flags_by attributes traits }
 {
-    let readonly = attributes == Some(SectionAttributes::Readonly);
-    let noload = attributes == Some(SectionAttributes::Noload);
+    let readonly = matches!(attributes, Some(SectionAttributes::Readonly));
+    let noload = matches!(attributes, Some(SectionAttributes::Noload));
     let nobits = (traits.rows && !traits.bits) || noload;
     flag(!floating_by(attributes, traits), InputFlags::ALLOC)
-        | flag(traits.write && !readonly, InputFlags::WRITE)
-        | flag(traits.exec, InputFlags::EXEC)
-        | flag(nobits, InputFlags::NOBITS)
-        | flag(traits.tls, InputFlags::TLS)
+        .union(flag(traits.write && !readonly, InputFlags::WRITE))
+        .union(flag(traits.exec, InputFlags::EXEC))
+        .union(flag(nobits, InputFlags::NOBITS))
+        .union(flag(traits.tls, InputFlags::TLS))
+}
+
+// What is said of a section of the script of this name, with these traits.
+fn script_facts<'a>(name: &'a Name, section: &'a Section, traits: Traits) -> Facts<'a>
+    ensures { shown_facts result ≡ facts_by name.now (Some section.now) traits }
+{
+    Facts {
+        name,
+        alignment: clause_alignment(section.alignment.as_ref()).max(traits.alignment),
+        floating: floating_by(section.attributes, traits),
+        flags: flags_by(section.attributes, traits),
+        fill: fill_of(section.fill.as_ref()),
+        start: section.start_address_expression.as_ref(),
+        load: section.at_address.as_ref(),
+    }
+}
+
+// What is said of an orphan of this name, with these traits.
+fn orphan_facts<'a>(name: &'a Name, traits: Traits) -> Facts<'a>
+    ensures { shown_facts result ≡ facts_by name.now None traits }
+{
+    Facts {
+        name,
+        alignment: traits.alignment,
+        floating: floating_by(None, traits),
+        flags: flags_by(None, traits),
+        fill: None,
+        start: None,
+        load: None,
+    }
 }
 
 // What is said of a section of this name, with these traits.
 fn facts_by<'a>(name: &'a Name, section: Option<&'a Section>, traits: Traits) -> Facts<'a>
     ensures { shown_facts result ≡ facts_by name.now (option_copied section.entry) traits }
 {
-    let attributes = section.and_then(|section| section.attributes);
-    let align = section.and_then(|section| section.alignment.as_ref());
-    Facts {
-        name,
-        alignment: clause_alignment(align).max(traits.alignment),
-        floating: floating_by(attributes, traits),
-        flags: flags_by(attributes, traits),
-        fill: fill_of(section.and_then(|section| section.fill.as_ref())),
-        start: section.and_then(|section| section.start_address_expression.as_ref()),
-        load: section.and_then(|section| section.at_address.as_ref()),
+    match section {
+        Some(section) => script_facts(name, section, traits),
+        None => orphan_facts(name, traits),
     }
 }
 
@@ -153,6 +176,13 @@ fn push_section<'a>(
     Ok(())
 }
 
+// The section of this number, where the script has one.
+fn section_at<'a>(sections: &[&'a Section], number: usize) -> Option<&'a Section>
+    ensures { option_copied result ≡ slice_get (targets sections.now) number }
+{
+    sections.get(number).copied()
+}
+
 // Of sections of these names, which are numbered in order from 0 and have these traits; the first are those of the script.
 fn facts_with<'a>(
     alloc: Global,
@@ -164,7 +194,7 @@ fn facts_with<'a>(
 {
     let mut facts = Items::new(alloc);
     for (number, name) in names.iter().enumerate() {
-        let section = sections.get(number).copied();
+        let section = section_at(sections, number);
         push_section(&mut facts, name, section, traits.get(number))?;
     }
     Ok(facts)

@@ -6,8 +6,8 @@ use Rattle.wild_fates.specs.Shown.{shown_places}
 use Rattle.wild_plan_spec.specs.Definitions.{provided_entries}
 use Rattle.wild_plan.specs.Case.{shown_case}
 use Rattle.wild_plan.specs.Entries.{shown_entries}
-use Rattle.wild_plan.proofs.Defined.{support_same, names_same, entries_complete, names_complete}
-use Rattle.wild_plan.proofs.Phases.{table_fails, script_fails, names_fail, support_fails, all_hold}
+use Rattle.wild_plan.proofs.Defined.{names_same, entries_complete, names_complete}
+use Rattle.wild_plan.proofs.Phases.{table_fails, script_fails, names_fail, all_hold}
 use Rattle.wild_plan.proofs.check.check.Goals as goal
 
 pub returns-in_err-check_table-clause-failing : goal.returns-in_err-check_table-clause-failing
@@ -31,18 +31,6 @@ returns-in_err-names-clause-failing c =
     let names = rw (names_same case _ c.in_ok-script_fates.ensures.fates _ firm) at c.in_err-names.ensures.passes.err in
     rw (p.1, p.2) (names_fail case table script _ names)
 
-pub returns-in_err-check_support-clause-failing : goal.returns-in_err-check_support-clause-failing
-returns-in_err-check_support-clause-failing c =
-    let p = err_from_is_err_and c.from_residual-in_err-check_support.result c.from_residual-in_err-check_support.ensures.1 in
-    let case = shown_case c.args.case.now in
-    let fates = c.in_ok-script_fates.ensures.fates in
-    let table = c.in_ok-check_table.ensures.ok in
-    let script = c.in_ok-script_fates.ensures.passes.ok in
-    let firm = ap shown_entries c.as_slice.ensures ∙ (rw (c.as_slice-fates.ensures, c.as_slice-symbols.ensures, c.as_slice-places.ensures) at c.in_ok-entries.ensures) in
-    let names = rw (names_same case _ fates _ firm) at c.in_ok-names.ensures.passes.ok in
-    let support = rw (c.as_slice-2.ensures, c.as_slice-fates.ensures, support_same case _ fates) at c.in_err-check_support.ensures.err in
-    rw (p.1, p.2) (support_fails case table script names _ support)
-
 pub returns-clause-sound : goal.returns-clause-sound
 returns-clause-sound c =
     let case = shown_case c.args.case.now in
@@ -51,9 +39,8 @@ returns-clause-sound c =
     let script = c.in_ok-script_fates.ensures.passes.ok in
     let firm = ap shown_entries c.as_slice.ensures ∙ (rw (c.as_slice-fates.ensures, c.as_slice-symbols.ensures, c.as_slice-places.ensures) at c.in_ok-entries.ensures) in
     let names = rw (names_same case _ fates _ firm) at c.in_ok-names.ensures.passes.ok in
-    let support = rw (c.as_slice-2.ensures, c.as_slice-fates.ensures, support_same case _ fates) at c.in_ok-check_support.ensures.ok in
     record {
-      sound = all_hold case table script names support;
+      sound = all_hold case table script names;
       fates = fates;
       entries = entries_complete case _ fates _ firm _
           ((rw c.as_slice-places.ensures at c.in_ok-push_provided_entries.ensures.entries)

@@ -1,4 +1,5 @@
 use Rattle.std.proofs.Common.{◌∙◌, ap}
+use Rattle.wild_fates.specs.Targets.{targets}
 use Rattle.wild_plan.specs.Facts.{alignments_in, shown_all}
 use Rattle.wild_plan.proofs.Defined.{fates_counted}
 use Rattle.wild_plan.proofs.ground.find_basis.Goals as goal
@@ -13,7 +14,8 @@ pub returns : goal.returns
 returns c =
     let fates = c.as_slice-fates.ensures ∙ c.requires.fates.fates in
     let names = c.as_slice-names.ensures ∙ c.requires.fates.names in
-    let facts = rw (c.as_slice-rows.ensures, fates, names) at c.in_ok-facts.ensures in
+    let sections = ap targets c.as_slice-sections.ensures ∙ c.requires.fates.sections in
+    let facts = rw (c.as_slice-rows.ensures, fates, names, sections) at c.in_ok-facts.ensures in
     record {
       facts = facts;
       alignments = c.in_ok-alignments.ensures ∙ ap (λ fs. alignments_in (shown_all fs)) c.as_slice.ensures ∙ ap alignments_in facts;
