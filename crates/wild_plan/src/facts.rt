@@ -1,6 +1,6 @@
 //! What a script and its table say of each section, before any address is known.
 
-ghost use Rattle.std.specs.Prelude.{◌≡◌, ◌∷◌, ◌++◌, [], OnOk, IfOk, Some, None, length, slice_get};
+ghost use Rattle.std.specs.Prelude.{◌≡◌, ◌∷◌, ◌++◌, [], OnOk, IfOk, Some, None, length, slice_get, not, ◌&&◌, ◌||◌};
 ghost use Rattle.std.specs.Option.{option_copied, option_map};
 ghost use Rattle.wild_plan_spec.specs.Facts as spec;
 ghost use Rattle.wild_value_spec.specs.Const.{const};
@@ -92,13 +92,41 @@ fn floats(attributes: Option<SectionAttributes>) -> bool
     }
 }
 
+// It is marked as not to be written.
+fn is_readonly(attributes: Option<SectionAttributes>) -> bool
+    ensures { result ≡ spec.is_readonly attributes }
+{
+    matches!(attributes, Some(SectionAttributes::Readonly))
+}
+
+// It is marked as not to be loaded.
+fn is_noload(attributes: Option<SectionAttributes>) -> bool
+    ensures { result ≡ spec.is_noload attributes }
+{
+    matches!(attributes, Some(SectionAttributes::Noload))
+}
+
 // ---- sections
 
 // It is marked as no part of the memory, or its rows are not in it.
-fn floating_by(attributes: Option<SectionAttributes>, traits: Traits) -> bool
-    ensures { result ≡ floating_by attributes traits }
+fn floating_by(attributes: Option<SectionAttributes>, traits: &Traits) -> bool
+    ensures { result ≡ floating_by attributes traits.now }
 {
     floats(attributes) || (traits.rows && !traits.alloc)
+}
+
+// Some row is writable, and it is not marked as not to be written.
+fn write_by(attributes: Option<SectionAttributes>, traits: &Traits) -> bool
+    ensures { result ≡ (traits.now.write && not (spec.is_readonly attributes)) }
+{
+    traits.write && !is_readonly(attributes)
+}
+
+// There are rows, and the file holds none of them, or it is marked as not to be loaded.
+fn nobits_by(attributes: Option<SectionAttributes>, traits: &Traits) -> bool
+    ensures { result ≡ ((traits.now.rows && not traits.now.bits) || spec.is_noload attributes) }
+{
+    (traits.rows && !traits.bits) || is_noload(attributes)
 }
 
 // The flag, where it is set.
@@ -109,43 +137,49 @@ fn flag(set: bool, flag: InputFlags) -> InputFlags
 }
 
 // The flags of a section with these marks and traits.
-fn flags_by(attributes: Option<SectionAttributes>, traits: Traits) -> InputFlags
-    ensures { result ≡ flags_by attributes traits }
+fn flags_by(attributes: Option<SectionAttributes>, traits: &Traits) -> InputFlags
+    ensures { result ≡ flags_by attributes traits.now }
 {
-    let readonly = matches!(attributes, Some(SectionAttributes::Readonly));
-    let noload = matches!(attributes, Some(SectionAttributes::Noload));
-    let nobits = (traits.rows && !traits.bits) || noload;
-    flag(!floating_by(attributes, traits), InputFlags::ALLOC)
-        .union(flag(traits.write && !readonly, InputFlags::WRITE))
-        .union(flag(traits.exec, InputFlags::EXEC))
-        .union(flag(nobits, InputFlags::NOBITS))
-        .union(flag(traits.tls, InputFlags::TLS))
+    let alloc = flag(!floating_by(attributes, traits), InputFlags::ALLOC);
+    let write = flag(write_by(attributes, traits), InputFlags::WRITE);
+    let exec = flag(traits.exec, InputFlags::EXEC);
+    let nobits = flag(nobits_by(attributes, traits), InputFlags::NOBITS);
+    let tls = flag(traits.tls, InputFlags::TLS);
+    alloc.union(write).union(exec).union(nobits).union(tls)
 }
 
 // What is said of a section of the script of this name, with these traits.
-fn script_facts<'a>(name: &'a Name, section: &'a Section, traits: Traits) -> Facts<'a>
-    ensures { shown_facts result ≡ facts_by name.now (Some section.now) traits }
+fn script_facts<'a>(name: &'a Name, section: &'a Section, traits: &Traits) -> Facts<'a>
+    ensures { shown_facts result ≡ facts_by name.now (Some section.now) traits.now }
 {
+    let alignment = clause_alignment(section.alignment.as_ref()).max(traits.alignment);
+    let floating = floating_by(section.attributes, traits);
+    let flags = flags_by(section.attributes, traits);
+    let fill = fill_of(section.fill.as_ref());
+    let start = section.start_address_expression.as_ref();
+    let load = section.at_address.as_ref();
     Facts {
         name,
-        alignment: clause_alignment(section.alignment.as_ref()).max(traits.alignment),
-        floating: floating_by(section.attributes, traits),
-        flags: flags_by(section.attributes, traits),
-        fill: fill_of(section.fill.as_ref()),
-        start: section.start_address_expression.as_ref(),
-        load: section.at_address.as_ref(),
+        alignment,
+        floating,
+        flags,
+        fill,
+        start,
+        load,
     }
 }
 
 // What is said of an orphan of this name, with these traits.
-fn orphan_facts<'a>(name: &'a Name, traits: Traits) -> Facts<'a>
-    ensures { shown_facts result ≡ facts_by name.now None traits }
+fn orphan_facts<'a>(name: &'a Name, traits: &Traits) -> Facts<'a>
+    ensures { shown_facts result ≡ facts_by name.now None traits.now }
 {
+    let floating = floating_by(None, traits);
+    let flags = flags_by(None, traits);
     Facts {
         name,
         alignment: traits.alignment,
-        floating: floating_by(None, traits),
-        flags: flags_by(None, traits),
+        floating,
+        flags,
         fill: None,
         start: None,
         load: None,
@@ -153,8 +187,8 @@ fn orphan_facts<'a>(name: &'a Name, traits: Traits) -> Facts<'a>
 }
 
 // What is said of a section of this name, with these traits.
-fn facts_by<'a>(name: &'a Name, section: Option<&'a Section>, traits: Traits) -> Facts<'a>
-    ensures { shown_facts result ≡ facts_by name.now (option_copied section.entry) traits }
+fn facts_by<'a>(name: &'a Name, section: Option<&'a Section>, traits: &Traits) -> Facts<'a>
+    ensures { shown_facts result ≡ facts_by name.now (option_copied section.entry) traits.now }
 {
     match section {
         Some(section) => script_facts(name, section, traits),
@@ -168,9 +202,9 @@ fn push_section<'a>(
     facts: &mut Items<Facts<'a>>,
     name: &'a Name,
     section: Option<&'a Section>,
-    traits: Traits,
+    traits: &Traits,
 ) -> Result<(), NoMemory>
-    ensures { OnOk result (shown_all facts.new ≡ shown_all facts.old ++ facts_by name.now (option_copied section.entry) traits ∷ []) }
+    ensures { OnOk result (shown_all facts.new ≡ shown_all facts.old ++ facts_by name.now (option_copied section.entry) traits.now ∷ []) }
 {
     facts.push(facts_by(name, section, traits))?;
     Ok(())
@@ -195,7 +229,8 @@ fn facts_with<'a>(
     let mut facts = Items::new(alloc);
     for (number, name) in names.iter().enumerate() {
         let section = section_at(sections, number);
-        push_section(&mut facts, name, section, traits.get(number))?;
+        let own = traits.get(number);
+        push_section(&mut facts, name, section, &own)?;
     }
     Ok(facts)
 }

@@ -46,18 +46,34 @@ pub(crate) fn alignment_of(row: &InputRow) -> Alignment
 }
 
 impl Traits {
-    /// The same with one more row.
-    fn with(self, row: &InputRow) -> Traits
-        ensures { result ≡ joined self (traits_of (row.now ∷ [])) }
+    // Those of one row.
+    fn of_row(row: &InputRow) -> Traits
+        ensures { result ≡ traits_of (row.now ∷ []) }
+    {
+        let flags = row.flags;
+        Traits {
+            alignment: alignment_of(row),
+            rows: true,
+            alloc: flags.contains(InputFlags::ALLOC),
+            write: flags.contains(InputFlags::WRITE),
+            exec: flags.contains(InputFlags::EXEC),
+            bits: !flags.contains(InputFlags::NOBITS),
+            tls: flags.contains(InputFlags::TLS),
+        }
+    }
+
+    // Those of the rows of both.
+    fn joined(self, other: Traits) -> Traits
+        ensures { result ≡ joined self other }
     {
         Traits {
-            alignment: self.alignment.max(alignment_of(row)),
-            rows: true,
-            alloc: self.alloc || row.flags.contains(InputFlags::ALLOC),
-            write: self.write || row.flags.contains(InputFlags::WRITE),
-            exec: self.exec || row.flags.contains(InputFlags::EXEC),
-            bits: self.bits || !row.flags.contains(InputFlags::NOBITS),
-            tls: self.tls || row.flags.contains(InputFlags::TLS),
+            alignment: self.alignment.max(other.alignment),
+            rows: self.rows | other.rows,
+            alloc: self.alloc | other.alloc,
+            write: self.write | other.write,
+            exec: self.exec | other.exec,
+            bits: self.bits | other.bits,
+            tls: self.tls | other.tls,
         }
     }
 }
@@ -85,7 +101,7 @@ impl SectionTraits {
     fn note(&mut self, section: usize, row: &InputRow) -> Result<(), NoMemory>
         ensures { OnOk result ((s : ℕ) → traits_at self.new s ≡ (if section == s then joined (traits_at self.old s) (traits_of (row.now ∷ [])) else traits_at self.old s)) }
     {
-        let traits = self.get(section).with(row);
+        let traits = self.get(section).joined(Traits::of_row(row));
         self.by_section.insert(section, traits)?;
         Ok(())
     }
