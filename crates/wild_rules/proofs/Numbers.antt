@@ -1,5 +1,5 @@
 -- The numbers of rules that an index has, and what a look-up finds along them.
-use Rattle.std.proofs.Common.{◌≡◌, ◌≢◌, ◌≤◌, ◌<◌, ◌+◌, ℕ, zero, suc, Bool, true, false, not, cond, List, [], ◌∷◌, length, Option, Some, None, refl, sym, ◌∙◌, ap, subst, ◌⊎◌, inl, inr, ⊎_elim, arith}
+use Rattle.std.proofs.Common.{◌≡◌, ◌≤◌, ◌<◌, ◌+◌, ℕ, zero, suc, Bool, true, false, ◌==◌, cond, List, [], ◌∷◌, length, Option, Some, None, refl, sym, ◌∙◌, ap, subst, ◌⊎◌, inl, inr, ⊎_elim, arith}
 use Rattle.std.specs.Prelude.{slice_get}
 use Rattle.std.specs.List.{find, count_by}
 use Rattle.std.proofs.lemmas.Bool.{cases_Bool, leb-true}
@@ -232,6 +232,6 @@ pub one_less : (keyed short : List ℕ) (m : ℕ) (keyed_behind short_behind : L
 one_less keyed short m keyed_behind short_behind (inl p) = omega (arith, ap (λ l. length l) p.0, ap (λ l. length l) p.1)
 one_less keyed short m keyed_behind short_behind (inr p) = omega (arith, ap (λ l. length l) p.0, ap (λ l. length l) p.1)
 
-pub candidates_with_name : (name : List ℕ) (rules : List Rule) → name ≢ [] → candidates rules name ≡ candidates_by_key rules (name_key name)
-candidates_with_name [] rules n = absurd (n refl)
-candidates_with_name (b ∷ bs) rules n = refl
+pub candidates_with_name : (rules listed : List Rule) (name : List ℕ) → rules ≡ listed → false ≡ (length name == 0) → candidates_by_key rules (name_key name) ≡ candidates listed name
+candidates_with_name rules listed [] same n = cc
+candidates_with_name rules listed (b ∷ bs) same n = ap (λ r. candidates_by_key r (name_key (b ∷ bs))) same
