@@ -35,12 +35,9 @@ impl Index {
         ensures keyed { OnOk result ((q : List ℕ) → spec.numbers_at self.new q ≡ spec.numbers_at self.old q ++ (if spec.is_key q (Some key) then number ∷ [] else [])) }
         ensures short { OnOk result (self.new.short ≡ self.old.short) }
     {
-        let mut numbers = match self.by_key.remove(&key) {
-            Some(numbers) => numbers,
-            None => Items::new(alloc),
-        };
+        let entry = self.by_key.entry(key)?;
+        let numbers = entry.or_insert(Items::new(alloc));
         numbers.push(number)?;
-        self.by_key.insert(key, numbers)?;
         Ok(())
     }
 

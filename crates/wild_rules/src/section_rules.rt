@@ -57,8 +57,8 @@ impl SectionRules {
         })
     }
 
-    // The first rule that matches. A step for each rule that is tried.
-    fn find<L: Ledger>(
+    // `lookup_rule`, and a step for each rule that is tried.
+    fn lookup_rule_counted<L: Ledger>(
         &self,
         section_name: &[u8],
         file_name: Option<&[u8]>,
@@ -80,8 +80,8 @@ impl SectionRules {
         )
     }
 
-    // The same, where nobody counts the steps: they are of a ledger of their own.
-    fn find_uncounted<L: Ledger>(
+    // The same, with steps of a ledger of its own, which nobody reads.
+    fn lookup_rule_apart<L: Ledger>(
         &self,
         section_name: &[u8],
         file_name: Option<&[u8]>,
@@ -93,14 +93,14 @@ impl SectionRules {
         ensures { option_copied result ≡ spec.first_rule self.now section_name.now (option_copied file_name.entry) }
     {
         let mut steps: Steps<L> = Steps::new(blank);
-        self.find(section_name, file_name, &mut steps)
+        self.lookup_rule_counted(section_name, file_name, &mut steps)
     }
 
     /// The first rule that matches. None where none does, and where the section name is empty.
     pub fn lookup_rule(&self, section_name: &[u8], file_name: Option<&[u8]>) -> Option<&SectionRule>
         ensures { option_copied result ≡ spec.first_rule self.now section_name.now (option_copied file_name.entry) }
     {
-        self.find_uncounted::<Brand>(section_name, file_name, Blank::new(1))
+        self.lookup_rule_apart::<Brand>(section_name, file_name, Blank::new(1))
     }
 
     /// Where the section goes: Discard where its header excludes it; else where the first rule that matches sends it;
@@ -138,7 +138,7 @@ impl SectionRules {
         if header.should_exclude() {
             return SectionRuleOutcome::Discard;
         }
-        let rule = self.find(section_name, file_name, steps);
+        let rule = self.lookup_rule_counted(section_name, file_name, steps);
         sent::<P, H>(rule, section_name, header)
     }
 }

@@ -21,14 +21,14 @@ pub rule_at-rule-requires : goal.rule_at-rule-requires
 rule_at-rule-requires g c =
     let name = c.args.section_name.now in let file = option_copied c.args.file_name in let next = c.in-Some in
     in_range c.args.rules.now (takes name file) (name_key name) c.loop-number.left.keyed.now c.loop-number.left.short.now (only name file) c.loop-number.invariant.0
-        next.number next.behind.keyed.now next.behind.short.now next.ensures
+    next.number next.behind.keyed.now next.behind.short.now next.ensures
 
 pub returns-then-matches_counted-clause-rule : goal.returns-then-matches_counted-clause-rule
 returns-then-matches_counted-clause-rule g c =
     let name = c.args.section_name.now in let file = option_copied c.args.file_name in let next = c.in-Some in
     sym (found_here c.args.rules.now (takes name file) (name_key name) c.loop-number.left.keyed.now c.loop-number.left.short.now (only name file) c.loop-number.invariant.0
-        next.number next.behind.keyed.now next.behind.short.now next.ensures
-        c.rule_at-rule.result.now c.rule_at-rule.ensures (sym c.matches_counted.ensures.matches ∙ c.if-matches_counted.true))
+    next.number next.behind.keyed.now next.behind.short.now next.ensures
+    c.rule_at-rule.result.now c.rule_at-rule.ensures (sym c.matches_counted.ensures.matches ∙ c.if-matches_counted.true))
 
 pub loop-number-preserved : goal.loop-number-preserved
 loop-number-preserved g c =
@@ -44,4 +44,4 @@ pub returns-clause-rule : goal.returns-clause-rule
 returns-clause-rule g c =
     let name = c.args.section_name.now in let file = option_copied c.args.file_name in
     sym (none_left c.args.rules.now (takes name file) (name_key name) c.loop-number.left.keyed.now c.loop-number.left.short.now (only name file) c.loop-number.invariant.0
-        c.in_default.ensures.0 c.in_default.ensures.1)
+    c.in_default.ensures.0 c.in_default.ensures.1)

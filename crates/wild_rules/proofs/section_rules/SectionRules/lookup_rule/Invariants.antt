@@ -1,4 +1,4 @@
 use Rattle.wild_rules.proofs.section_rules.SectionRules.lookup_rule.Given as goal
 
-abbrev pub ghosts-find_uncounted : goal.ghosts-find_uncounted
-ghosts-find_uncounted a = record { name = a.blank.name; parts = a.blank.parts }
+abbrev pub ghosts-lookup_rule_apart : goal.ghosts-lookup_rule_apart
+ghosts-lookup_rule_apart a = record { name = a.blank.name; parts = a.blank.parts }

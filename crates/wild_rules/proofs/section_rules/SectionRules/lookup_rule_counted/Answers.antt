@@ -1,6 +1,6 @@
 use Rattle.std.proofs.Common.{◌∙◌, arith}
 use Rattle.wild_rules.proofs.Numbers.{candidates_with_name}
-use Rattle.wild_rules.proofs.section_rules.SectionRules.find.Goals as goal
+use Rattle.wild_rules.proofs.section_rules.SectionRules.lookup_rule_counted.Goals as goal
 
 pub returns-clause-steps : goal.returns-clause-steps
 returns-clause-steps g c =
