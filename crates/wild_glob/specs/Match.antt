@@ -1,5 +1,5 @@
 -- The texts that pieces match.
-use Rattle.std.specs.Prelude.{ℕ, Bool, true, false, not, ◌&&◌, ◌||◌, ◌==◌, nat_le, if◌then◌else◌, List, [], ◌∷◌}
+use Rattle.std.specs.Prelude.{ℕ, Bool, true, false, not, ◌&&◌, ◌||◌, ◌==◌, nat_le, if◌then◌else◌, List, [], ◌∷◌, slice_get, Option, Some, None}
 use Rattle.std.specs.List.{list_any}
 use Rattle.wild_glob.specs.declared.piece.ClassItem.{ClassItem}
 use Rattle.wild_glob.specs.declared.piece.ClassItem.TheVariants.{One, Range}
@@ -48,3 +48,19 @@ matches (AnyRun ∷ ps) cs = some_suffix (matches ps) cs
 matches (AnyCharacter ∷ ps) cs = one_then AnyCharacter (matches ps) cs
 matches (Class negated items ∷ ps) cs = one_then (Class negated items) (matches ps) cs
 matches (Literal a ∷ ps) cs = one_then (Literal a) (matches ps) cs
+
+-- the character that a piece stands for, where it stands for one alone
+abbrev pub character_of : Piece → Option ℕ
+character_of AnyRun = None
+character_of AnyCharacter = None
+character_of (Class negated items) = None
+character_of (Literal a) = Some a
+
+-- the same of a piece that may be missing
+abbrev pub character_of_any : Option Piece → Option ℕ
+character_of_any None = None
+character_of_any (Some p) = character_of p
+
+-- the same of the piece at this place, if there is one
+abbrev pub character_at : List Piece → ℕ → Option ℕ
+character_at ps place = character_of_any (slice_get ps place)

@@ -66,6 +66,16 @@ impl Pattern {
         Ok(Pattern { pieces })
     }
 
+    /// The character that its piece at this place stands for. None where the piece is a wildcard, and past the last.
+    pub fn character(&self, place: usize) -> Option<char>
+        ensures { result ≡ spec.character_at self.now place }
+    {
+        match self.pieces.get(place) {
+            Some(piece) => piece.character(),
+            None => None,
+        }
+    }
+
     /// Whether it matches the whole text. It takes at most (pieces + 1) * (characters + 1) steps, and no memory.
     pub fn matches(&self, text: &str) -> bool
         ensures { result ≡ spec.matches self.now (chars text.now) }

@@ -58,6 +58,16 @@ impl Piece {
         matches!(self, Piece::AnyRun)
     }
 
+    /// The character that it stands for, where it stands for one alone.
+    pub fn character(&self) -> Option<char>
+        ensures { result ≡ spec.character_of self.now }
+    {
+        match self {
+            Piece::Literal(character) => Some(*character),
+            _ => None,
+        }
+    }
+
     /// Whether it takes one character, and takes this one.
     pub fn admits(&self, character: char) -> bool
         ensures { result ≡ spec.admits self.now character }

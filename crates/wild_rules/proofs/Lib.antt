@@ -1,3 +1,5 @@
 pub mod Firsts
+pub mod Keys
 pub mod Memory
+pub mod Numbers
 pub mod Utf8

@@ -4,3 +4,4 @@ pub mod Taking
 pub mod Making
 pub mod Lookup
 pub mod Unnamed
+pub mod Index

@@ -2,6 +2,8 @@
 #![tactic(auto)]
 
 mod fault;
+mod index;
+mod key;
 mod laws;
 mod layout_rules;
 mod matcher;
@@ -13,7 +15,7 @@ mod section_rules;
 mod unnamed;
 
 pub use fault::RuleFault;
-pub use laws::first_rule_counts;
+pub use laws::{first_rule_counts, rules_have_keys};
 pub use layout_rules::LayoutRules;
 pub use merging::should_merge_sections;
 pub use outcome::{SectionOutputInfo, SectionRuleOutcome};

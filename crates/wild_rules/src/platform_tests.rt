@@ -1,10 +1,14 @@
 //! Sections without names, orphans and merges, on a small platform.
 
+ghost use Rattle.std.specs.Prelude.{◌≡◌};
+
 use crate::*;
+use std::marker::Brand;
+use std::sync::ledger::{Blank, Ledger};
 use std::test::Fail;
 use wild_base::{
     Architecture, Args, Endianness, OutputSectionId, PartId, PlatformIds, RelocationModel,
-    SectionHeader, SegmentName,
+    SectionHeader, SegmentName, Steps,
 };
 
 /// Two single parts, and six regular sections. `.eh_frame` is `.note.gnu.property` too, and no one has `.tbss`.
@@ -320,6 +324,21 @@ fn homes_of_bits(rt: HostRuntime) {
     }
 }
 
+// `lookup_counted`, with steps of this ledger.
+fn lookup_counted<L: Ledger>(
+    blank: Blank,
+    rules: &SectionRules,
+    name: &[u8],
+    header: &Header,
+) -> SectionRuleOutcome
+    requires name { blank.name ≡ L.name }
+    requires parts { blank.parts ≡ L.parts }
+    requires one { blank.parts ≡ 1 }
+{
+    let mut steps: Steps<L> = Steps::new(blank);
+    rules.lookup_counted::<Six, _, L>(name, None, header, &mut steps)
+}
+
 #[test]
 fn lookups(rt: HostRuntime) -> Result<(), Fail> {
     let alloc = rt.alloc();
@@ -349,6 +368,8 @@ fn lookups(rt: HostRuntime) -> Result<(), Fail> {
             rules.lookup::<Six, _>(name, None, &header) == wanted,
             "{case}"
         );
+        let counted = lookup_counted::<Brand>(Blank::new(1), &rules, name, &header);
+        assert!(rt; counted == wanted, "{case}, counted");
     }
     Ok(())
 }

@@ -1,7 +1,8 @@
 //! Rules: how they are made, and which sections they take.
 
-ghost use Rattle.std.specs.Prelude.{◌≡◌, ◌⊎◌, IfOk, Result};
+ghost use Rattle.std.specs.Prelude.{◌≡◌, ◌⊎◌, ◌+◌, IfOk, Result};
 ghost use Rattle.std.specs.Option.{option_copied};
+ghost use Rattle.wild_rules.specs.Index.{names_key};
 ghost use Rattle.wild_rules.specs.Taking as taking;
 ghost use Rattle.wild_rules.specs.Making as making;
 ghost use Rattle.wild_rules.specs.Outcomes as outcomes;
@@ -9,12 +10,14 @@ ghost use Rattle.wild_rules.specs.declared.fault.RuleFault.TheVariants as fault;
 ghost use Rattle.wild_rules.specs.declared.outcome.SectionRuleOutcome.TheVariants as sends;
 
 use crate::fault::RuleFault;
+use crate::key::{self, Key};
 use crate::matcher::{SectionNameMatcher, copy_file, takes_file};
 use crate::outcome::{SectionOutputInfo, SectionRuleOutcome};
 use crate::reading::{files_of, names_of};
 use std::alloc::Global;
 use std::marker::Model;
-use wild_base::{Name, NoMemory, OutputSectionId};
+use std::sync::ledger::Ledger;
+use wild_base::{Name, NoMemory, OutputSectionId, Steps};
 use wild_glob::Pattern;
 
 /// A rule that sends input sections somewhere: those of some names, in some files or in all. Contracts see it as these
@@ -172,5 +175,26 @@ impl SectionRule {
         ensures { result ≡ taking.takes section_name.now (option_copied file_name.entry) self.now }
     {
         self.matcher.takes(section_name) && takes_file(&self.file, file_name)
+    }
+
+    /// The same, and one step.
+    pub fn matches_counted<L: Ledger>(
+        &self,
+        section_name: &[u8],
+        file_name: Option<&[u8]>,
+        steps: &mut Steps<L>,
+    ) -> bool
+        ensures matches { result ≡ taking.takes section_name.now (option_copied file_name.entry) self.now }
+        ensures steps { steps.new ≡ steps.old + 1 }
+    {
+        steps.tick();
+        self.matches(section_name, file_name)
+    }
+
+    /// The first four bytes of the names that it takes, where they have these in common.
+    pub(crate) fn key(&self) -> Option<Key>
+        ensures { result ≡ names_key self.now.matcher }
+    {
+        key::names_key(&self.matcher)
     }
 }

@@ -2,7 +2,7 @@ use super::*;
 use std::alloc::Global;
 use std::process::Abort;
 use std::test::Fail;
-use wild_base::OutputSectionId;
+use wild_base::{NoMemory, OutputSectionId};
 
 const CUSTOM: SectionRuleOutcome = SectionRuleOutcome::Custom;
 
@@ -214,6 +214,64 @@ fn first_match(rt: HostRuntime) {
         ("no name", b"", file, None),
     ] {
         let found = rules.lookup_rule(name, file);
+        assert!(rt; found.map(|rule| rule.outcome()) == wanted, "{case}");
+    }
+}
+
+// Rules of one key, `a` and three zeros, and short ones between them and behind.
+fn rules_of_short_names(alloc: Global) -> Result<SectionRules, NoMemory> {
+    let one = SectionRule::exact(alloc, b"a", DISCARD)?;
+    let four = SectionRule::exact(alloc, b"a\0\0\0", DEBUG)?;
+    let short = SectionRule::prefix(alloc, b"a\0", SectionRuleOutcome::EhFrame)?;
+    let three = SectionRule::exact(alloc, b"a\0\0", DISCARD)?;
+    SectionRules::from_rules(alloc, &[one, four, short, three])
+}
+
+#[test]
+fn zeros_in_names(rt: HostRuntime) -> Result<(), Fail> {
+    let rules = rules_of_short_names(rt.alloc())?;
+    let eh_frame = Some(SectionRuleOutcome::EhFrame);
+    for (case, name, wanted) in [
+        ("one byte", b"a".as_slice(), Some(DISCARD)),
+        ("four bytes of the same key", b"a\0\0\0", Some(DEBUG)),
+        ("a short rule before one with the key", b"a\0\0", eh_frame),
+        ("a short rule", b"a\0", eh_frame),
+        ("five bytes", b"a\0\0\0\0", eh_frame),
+        ("another byte", b"b", None),
+        ("a zero", b"\0", None),
+        ("no name", b"", None),
+    ] {
+        let found = rules.lookup_rule(name, None);
+        assert!(rt; found.map(|rule| rule.outcome()) == wanted, "{case}");
+    }
+    Ok(())
+}
+
+// A wildcard among the first four characters, one behind them, and one behind a character of two bytes.
+fn rules_with_wildcards(alloc: Global) -> Result<SectionRules, RuleFault> {
+    let early = SectionRule::new(alloc, b".t?xt", None, DISCARD)?;
+    let late = SectionRule::new(alloc, b".text.*", None, DEBUG)?;
+    let other = SectionRule::new(alloc, b".\xc3\xa9.*", None, CUSTOM)?;
+    let escaped = SectionRule::new(alloc, b"\\*abc*", None, CUSTOM)?;
+    let last = SectionRule::new(alloc, b".t*", None, SectionRuleOutcome::EhFrame)?;
+    let rules = SectionRules::from_rules(alloc, &[early, late, other, escaped, last])?;
+    Ok(rules)
+}
+
+#[test]
+fn wildcards_at_the_start(rt: HostRuntime) {
+    let rules = rules_with_wildcards(rt.alloc()).expect(&rt, "rules");
+    let eh_frame = Some(SectionRuleOutcome::EhFrame);
+    for (case, name, wanted) in [
+        ("among four", b".text".as_slice(), Some(DISCARD)),
+        ("behind four, before the last", b".text.a", Some(DEBUG)),
+        ("the last", b".texta", eh_frame),
+        ("fewer than four bytes", b".t", eh_frame),
+        ("two bytes", b".\xc3\xa9.a", Some(CUSTOM)),
+        ("an escape", b"*abcd", Some(CUSTOM)),
+        ("none", b"abcd", None),
+    ] {
+        let found = rules.lookup_rule(name, None);
         assert!(rt; found.map(|rule| rule.outcome()) == wanted, "{case}");
     }
 }
