@@ -4,6 +4,7 @@ The words of a tool that uses this are: PROGRAM COUNT [FIRST]. Each case is made
 the number FIRST, or 0. The status is 1 where two answers differ.
 """
 import collections
+import itertools
 import os
 import random
 import subprocess
@@ -53,14 +54,15 @@ def answered(program, folder, case):
     return ran.returncode, ran.stdout.decode(), ran.stderr.decode()
 
 
-def compare_all(make, shown=lambda text: text):
-    """Compares all cases, each made by make from a source of random numbers, in what is shown of their texts."""
+def compare_all(make, shown=lambda text: text, worked=()):
+    """Compares all cases in what is shown of their texts: those worked ones, and those that make makes from a source of
+    random numbers."""
     program, count = sys.argv[1], int(sys.argv[2])
     first = int(sys.argv[3]) if len(sys.argv) > 3 else 0
+    made = ((number, make(random.Random(number))) for number in range(first, first + count))
     kinds, differing = collections.Counter(), 0
     with tempfile.TemporaryDirectory() as folder:
-        for number in range(first, first + count):
-            case = make(random.Random(number))
+        for number, case in itertools.chain((("worked", case) for case in worked), made):
             status, out, err = answered(program, folder, case)
             kinds[" ".join(case.answer[2].split()[1:3]) or "plan"] += 1
             if (status, shown(out), err) != case.answer:
@@ -68,5 +70,6 @@ def compare_all(make, shown=lambda text: text):
                 if differing <= MOST_SHOWN:
                     print(f"case {number}\n{case.script}\n{case.table}expected {case.answer}\n"
                           f"answered {(status, shown(out), err)}\n")
-    print(f"{differing} of {count} differ:", ", ".join(f"{kind} {times}" for kind, times in kinds.most_common()))
+    total = sum(kinds.values())
+    print(f"{differing} of {total} differ:", ", ".join(f"{kind} {times}" for kind, times in kinds.most_common()))
     sys.exit(1 if differing else 0)
