@@ -90,7 +90,9 @@ NODES = (Number, Here, Headers, Symbol, Of, Unary, Binary, Call, Choice, Align, 
 
 def is_built(expression):
     """Whether no node, read or not, asks for memory regions, segments or headers."""
-    if isinstance(expression, (Headers, Segment)) or isinstance(expression, Of) and expression.word in ("ORIGIN", "LENGTH"):
+    if isinstance(expression, (Headers, Segment)):
+        return False
+    if isinstance(expression, Of) and expression.word in ("ORIGIN", "LENGTH"):
         return False
     return all(is_built(part) for part in vars(expression).values() if isinstance(part, NODES))
 
@@ -351,8 +353,8 @@ class Scope:
 class Values:
     """Evaluates over what is known, in the statement at one place.
 
-    Numbers are known by a word and a number: `start`, `load` and `end` of a section, `row` of a row, `dot` of a place, and
-    `opened` of a place at which a section begins."""
+    Numbers are known by a word and a number: `start`, `load` and `end` of a section, `row` of a row, `dot` of a place,
+    and `opened` of a place at which a section begins."""
 
     def __init__(self, scope, known, statement):
         self.scope, self.known, self.statement = scope, known, statement

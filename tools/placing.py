@@ -1,5 +1,5 @@
-"""The plan of a script's tree over a table, by the rules of docs/PLACEMENT.md, GLOBS.md, RULES.md, FAULTS.md and TEXTS.md
-as they are written below."""
+"""The plan of a script's tree over a table, by the rules of docs/PLACEMENT.md, GLOBS.md, RULES.md, FAULTS.md and
+TEXTS.md as they are written below."""
 from dataclasses import dataclass, field
 
 from comparing import Fault, address_text, name_text

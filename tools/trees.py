@@ -80,8 +80,8 @@ class Trees:
         attribute = items["attribute"].decode() if "attribute" in items else None
         is_assigned = "region" in items or "headers" in items
         statements = [self.statement(statement) for statement in contents]
-        return Section(name.decode(), statements, attribute, clause("start"), clause("at"), clause("align"), clause("fill"),
-                       is_assigned)
+        return Section(name.decode(), statements, attribute, clause("start"), clause("at"), clause("align"),
+                       clause("fill"), is_assigned)
 
 
 def tree_of(text):

@@ -1,0 +1,377 @@
+"""Random scripts, as trees, and tables. Most of them have a plan."""
+from expressions import Align, Assert, Binary, Call, Choice, Headers, Here, Number, Of, Segment, Symbol, Unary
+from expressions import Vocabulary, random_expression
+from placing import FLOATING, Assignment, Command, Constructors, Location, Matcher, Pattern, Provide, Row, Section
+from placing import Sections, TableSymbol
+
+
+# ---- random tables and patterns
+
+ROW_NAMES = [".a", ".b", ".ab", ".a.b", ".text", ".text.x", ".t]x", ".text.y1", "a", "-", ".ba", ".é", ".bb", "", ".A"]
+FILES = ["f.o", "g.o", "lib/f.o", "é.o", "a", "f-o"]
+SECTION_NAMES = [".a", ".b", ".c", ".d", ".e", ".out", ".text"]
+COMMON_PATTERNS = [".a", ".b", ".a*", ".?", "*", ".text", ".text.*", ".[ab]", ".[!a]*", ".[a-c]*"]
+RARE_PATTERNS = [".t*x", ".[]t]*", "\\.a", ".a\\*", ".text.?1", ".é", ".?b", ".[b-a]", "*.x", ".*b*", "a", ".[!]a]",
+                 "?", "x*y"]
+BAD_PATTERNS = ["**", "[", ".a\\", ".[a"]
+FILE_PATTERNS = ["f.o", "*.o", "?.o", "[fg].o", "lib*", '"*"', "f\\.o", "lib/*", "é.*"]
+BAD_FILE_PATTERNS = ['""', "[", "**"]
+SORTS = ["", "", "SORT", "SORT_BY_NAME", "SORT_BY_ALIGNMENT"]
+
+
+def random_matcher(rng):
+    patterns = []
+    for _ in range(rng.randint(0, 3)):
+        kind = rng.random()
+        names = COMMON_PATTERNS if kind < 0.9 else RARE_PATTERNS if kind < 0.998 else BAD_PATTERNS
+        patterns.append(Pattern(rng.choice(SORTS), rng.choice(names)))
+    kind = rng.random()
+    file = rng.choice(["*"] if kind < 0.8 else FILE_PATTERNS if kind < 0.997 else BAD_FILE_PATTERNS)
+    return Matcher(file.strip('"'), patterns, rng.random() < 0.2)
+
+
+def random_row(rng):
+    alignment = rng.choice([1, 1, 2, 4, 8, 16]) if rng.random() < 0.998 else rng.choice([0, 3, 1 << 22])
+    chances = {"A": 0.85, "W": 0.3, "X": 0.25, "B": 0.3, "T": 0.1, "E": 0.06}
+    letters = [letter for letter, chance in chances.items() if rng.random() < chance]
+    flags = "".join(rng.sample(letters, len(letters)))
+    return Row(rng.choice(FILES), rng.choice(ROW_NAMES), rng.choice([0, 0, 1, 3, 4, 8, 17]), alignment, flags)
+
+
+def random_symbol(rng, name, rows):
+    row = rng.randrange(len(rows))
+    offset = rng.randint(0, rows[row].size) if rng.random() < 0.995 else rows[row].size + 1
+    return TableSymbol(name, row if rng.random() < 0.995 else len(rows), offset)
+
+
+# ---- random scripts
+
+TABLE_SYMBOLS = ["s", "t", "u", ""]
+# What is defined by numbers alone, and what in any way.
+CONSTANTS = ["base", "Size.1", "_k"]
+SYMBOLS = ["x", "y", "z", "_e", "p.0", "q"]
+CHANGES = ["+", "-", "*", "/", "<<", ">>", "&", "|", "^"]
+IDLE = ["ENTRY(x)", "OUTPUT_ARCH(i386:x86-64)", "GROUP(f.o x = 1)", "a.o", "INPUT( -lc )",
+        "VERSION { V { global: f; }; }"]
+UNBUILT = ["MEMORY { R : o = 0, l = 1 }", "OUTPUT_FORMAT(elf64-x86-64)", "PHDRS { }"]
+
+
+def small_number(rng):
+    return rng.choice([0, 1, 1, 2, 3, 4, 8, 16, 24, 32, 64, 100, 256])
+
+
+class Maker:
+    """Makes one script. It keeps in mind what a placement may ask for where it stands."""
+
+    def __init__(self, rng, symbols):
+        self.rng = rng
+        # What is above nearly all that was placed so far.
+        self.high = 0
+        self.opened, self.closed, self.defined = [], [], []
+        # Symbols that ask for nothing but `.`, and those that are defined in the contents of the section at hand.
+        self.simple, self.inside = [], []
+        names = rng.sample(SECTION_NAMES, len(SECTION_NAMES))
+        self.names = names[:rng.choice([1, 2, 3, 4, 5, 6, 7])]
+        self.symbols = [symbol for symbol in symbols if symbol] + rng.sample(SYMBOLS, rng.randint(0, len(SYMBOLS)))
+        self.constants = rng.sample(CONSTANTS, rng.randint(1, len(CONSTANTS)))
+        self.waiting = self.constants + [name for name in self.symbols if name in SYMBOLS]
+        rng.shuffle(self.waiting)
+
+    def chance(self, part):
+        return self.rng.random() < part
+
+    # ---- expressions
+
+    def any_expression(self, depth):
+        names = self.symbols + self.constants
+        words = Vocabulary(small_number, names or ["none"], names + ["none", ".a"], self.names + self.names + [".none"],
+                           [1, 2, 3, 4, 16], 0.98)
+        return random_expression(self.rng, depth, words)
+
+    def odd_expression(self):
+        """Mostly refused where it is read, and nowhere else."""
+        later = [name for name in self.names if name not in self.closed] + [".none"]
+        choices = [Binary(self.rng.choice("/%"), Number(1), Number(0)), Align(Number(0), None),
+                   Symbol(self.rng.choice(["none", *self.waiting])), Assert(Number(0), "odd"),
+                   Of("ADDR", self.rng.choice(later)),
+                   Of("SIZEOF", self.rng.choice(later)), Of("LOADADDR", self.rng.choice(later)),
+                   Align(Number(8), Number((1 << 64) - 1))]
+        if self.symbols:
+            choices.append(Symbol(self.rng.choice(self.symbols)))
+        return self.rng.choice(choices)
+
+    def unread(self, expression):
+        """The same number, beside a part that is not read."""
+        odd = self.odd_expression()
+        return self.rng.choice([
+            Choice(Number(1), expression, odd), Choice(Binary("&&", Number(0), odd), odd, expression),
+            Binary("+", Binary("&&", Number(0), odd), expression),
+            Binary("+", expression, Binary("-", Binary("||", Number(2), odd), Number(1))),
+            Choice(Of("DEFINED", "none"), odd, expression),
+            Choice(Number(1), Choice(Number(0), odd, expression), odd),
+        ])
+
+    def unbuilt(self):
+        segment = Segment("text-segment", Number(1))
+        odd = self.rng.choice([Headers(), segment, Of("ORIGIN", "R"), Of("LENGTH", "R")])
+        return self.rng.choice([odd, Choice(Number(1), Number(4), odd), Unary("-", odd), Call("MAX", Number(1), odd),
+                                Align(Number(4), odd), Assert(Binary("||", Number(1), odd), "m")])
+
+    def rising(self):
+        """A number that is mostly above all addresses so far."""
+        if self.chance(0.06):
+            return self.rng.choice([0, 16, self.high // 2, self.high // 2])
+        self.high += self.rng.choice([0x140, 0x200, 0x1000])
+        return self.high
+
+    def known_expression(self):
+        """What is known wherever a statement of SECTIONS stands, mostly small."""
+        choices = [Of("ALIGNOF", self.rng.choice(self.names)), Of("DEFINED", self.rng.choice(["none", *self.symbols])),
+                   Number(small_number(self.rng)), Symbol(self.rng.choice(self.constants))]
+        if self.closed:
+            choices.append(Of("SIZEOF", self.rng.choice(self.closed)))
+        return self.rng.choice(choices)
+
+    def address(self):
+        """For a placement outside of sections."""
+        rng, number = self.rng, Number(self.rising())
+        choices = [number, number, Binary("+", number, self.known_expression()), Call("MAX", Here(), number),
+                   Align(Number(rng.choice([1, 6, 16, 256])), None), Binary("+", Here(), Number(small_number(rng))),
+                   Align(Number(rng.choice([8, 24])), number), Here(), Binary("|", Here(), Number(0x1f))]
+        if self.opened:
+            known = Of(rng.choice(["ADDR", "ADDR", "LOADADDR"]), rng.choice(self.opened))
+            choices.append(Call("MAX", number, Binary("+", known, Number(0x100))))
+        if self.simple:
+            choices.append(Call("MAX", number, Binary("+", Symbol(rng.choice(self.simple)), Number(0x40))))
+        return rng.choice(choices)
+
+    def placement(self, make):
+        """What make makes, or with a part that is not read, or seldom something else."""
+        kind = self.rng.random()
+        if kind < 0.85:
+            return make()
+        if kind < 0.97:
+            return self.unread(make())
+        if kind < 0.98:
+            return self.odd_expression()
+        return self.any_expression(2) if kind < 0.998 else self.unbuilt()
+
+    def cursor_expression(self):
+        """For a placement in the contents of a section."""
+        rng, here = self.rng, self.opened[-1]
+        offset = Number(rng.choice([0, 16, 64, 96, 128, 128]))
+        own = [name for name in self.inside if name in self.simple]
+        marks = [Symbol(name) for name in rng.sample(own, min(2, len(own)))]
+        return rng.choice([
+            *[Call("MAX", mark, Here()) for mark in marks], *[Binary("+", mark, Number(128)) for mark in marks],
+            Binary("+", Here(), Number(small_number(rng))), Align(Number(rng.choice([1, 4, 6, 16])), None), offset,
+            Here(), Call("MAX", Here(), offset), Binary("+", Of("ADDR", here), offset), Align(Number(8), Here()),
+            Binary("+", Here(), self.known_expression()),
+            Choice(Binary("<", Here(), Number(self.high)), Here(), offset),
+        ])
+
+    def simple_expression(self):
+        rng = self.rng
+        return rng.choice([Here(), Binary("+", Here(), Number(small_number(rng))), Number(small_number(rng)),
+                           Align(Number(8), None)])
+
+    def symbol_expression(self):
+        """Of a symbol that no placement asks for."""
+        rng = self.rng
+        kind = rng.random()
+        if kind < 0.2:
+            return self.simple_expression()
+        if kind < 0.6:
+            name = rng.choice(self.names)
+            return rng.choice([Of("ADDR", name), Of("SIZEOF", name), Of("LOADADDR", name), self.known_expression(),
+                               Binary("+", Of("ADDR", name), Of("SIZEOF", name)),
+                               Binary("-", Of("LOADADDR", name), Of("ADDR", name))])
+        if kind < 0.84 and self.symbols:
+            # Rarely a symbol that may ask for this one.
+            names = self.defined if self.defined and self.chance(0.97) else self.symbols
+            other = Symbol(rng.choice(self.inside if self.inside and self.chance(0.7) else names))
+            return rng.choice([other, Binary("+", other, Number(4)), Binary("-", other, Here()),
+                               Binary("<", other, Here()), Choice(other, other, Here()),
+                               Binary("-", Call("MAX", other, Here()), other)])
+        if kind < 0.93:
+            return self.unread(Here())
+        return self.any_expression(rng.choice([1, 2, 2, 3])) if kind < 0.999 else self.unbuilt()
+
+    def condition(self):
+        rng = self.rng
+        name = rng.choice(self.names)
+        kind = rng.random()
+        if kind < 0.9:
+            return rng.choice([Number(1), Binary("<=", Of("ADDR", name), Number(1 << 40)), Binary("==", Here(), Here()),
+                               Binary("|", self.any_expression(2), Number(1)), Unary("!", Of("DEFINED", "none")),
+                               Binary("<=", Of("SIZEOF", name), Number(4096)), Unary("~", Number(0))])
+        return self.unread(Number(1)) if kind < 0.97 else self.any_expression(2)
+
+    # ---- statements
+
+    def change(self):
+        return self.rng.choice(CHANGES) if self.chance(0.3) else "="
+
+    def define(self, name):
+        """A definition of a name that waits for one."""
+        if name in self.constants:
+            value = Binary("+", Number(self.rng.choice([16, 256])), Number(self.rng.choice([0, 1, 64])))
+        elif self.chance(0.4):
+            value = self.simple_expression()
+            self.simple.append(name)
+        else:
+            value = self.symbol_expression()
+        self.defined.append(name)
+        self.inside.append(name)
+        if self.chance(0.3):
+            return Provide(name, value, self.chance(0.5))
+        operator = self.rng.choice(CHANGES) if self.chance(0.01) else ""
+        return Assignment(name, operator, value)
+
+    def again(self):
+        """A definition that does not count, or mostly not; or one of a name that is listed nowhere."""
+        name = self.rng.choice(["", *self.symbols])
+        if self.chance(0.15) or name == "":
+            return Assignment("" if self.chance(0.9) else name, "", self.symbol_expression())
+        return Provide(name, self.rng.choice([self.odd_expression(), self.symbol_expression()]), self.chance(0.5))
+
+    def task(self):
+        kind = self.rng.random()
+        if kind < 0.6 and self.waiting:
+            return self.define(self.waiting.pop())
+        if kind < 0.8:
+            return self.again()
+        return Assert(self.condition(), self.rng.choice(["m", "a b", ""]))
+
+    def location(self, make, changes):
+        if self.chance(0.3):
+            self.high += 0x40
+            return Location(self.rng.choice(changes), Number(self.rng.choice([1, 2, 4, 16])))
+        return Location("", self.placement(make))
+
+    def pair(self):
+        """Two symbols, of which the other one asks for the first in the section of both."""
+        names = [name for name in self.waiting if name not in self.constants][:2]
+        if len(names) < 2:
+            return
+        self.waiting = [name for name in self.waiting if name not in names]
+        self.defined += names
+        first, other = Symbol(names[0]), Number(self.rng.choice([1, 8]))
+        far = Binary("+", Number(1 << 20), Of("ADDR", self.rng.choice(self.names)))
+        values = [Of("ADDR", self.rng.choice(self.opened)), Symbol(self.rng.choice(self.constants)), far, far,
+                  Binary("+", Here(), other), Binary("-", Of("ADDR", self.opened[-1]), other)]
+        yield Assignment(names[0], "", self.rng.choice(values))
+        values = [first, Binary("+", first, other), Binary("-", first, Here()), Binary("<", Here(), first),
+                  Unary("!", Call("MIN", first, other))]
+        yield Assignment(names[1], "", self.rng.choice(values))
+
+    def contents(self):
+        for _ in range(self.rng.randint(0, 4)):
+            kind = self.rng.random()
+            if kind < 0.52:
+                yield random_matcher(self.rng)
+            elif kind < 0.72:
+                changes = ["+", "+", "+", "|", "*", "<<"] if self.chance(0.3) else ["+"]
+                yield self.location(self.cursor_expression, changes)
+            elif kind < 0.8:
+                yield from self.pair()
+            else:
+                yield Constructors() if kind < 0.83 else self.task()
+
+    def load(self):
+        if self.chance(0.5):
+            sum_here = Binary("+", Here(), self.known_expression())
+            return self.rng.choice([Here(), Of("ADDR", self.opened[-1]), sum_here, Align(Number(64), None)])
+        return self.address()
+
+    def clause(self, usual, odd):
+        """An expression that is a constant mostly."""
+        kind = self.rng.random()
+        if kind < 0.97:
+            return self.rng.choice([usual, usual, Binary("*", usual, Number(1)), Binary("<<", usual, Number(0)),
+                                    Choice(Number(1), usual, self.odd_expression()),
+                                    Binary("+", usual, Binary("&&", Number(0), self.odd_expression())),
+                                    Binary("|", usual, Call("MIN", Number(0), Number(3)))])
+        wrong = [odd, Here(), Symbol("base"), Binary("/", Number(4), Number(0)), Binary("%", usual, Number(0)),
+                 self.unbuilt(), Choice(Number(1), usual, self.unbuilt())]
+        return self.rng.choice(wrong)
+
+    def section(self, name):
+        rng, found = self.rng, Section(name, [])
+        if self.chance(0.25):
+            found.attribute = rng.choice(["NOLOAD", "READONLY", *FLOATING])
+        if self.chance(0.25):
+            found.start = self.placement(self.address)
+        self.opened.append(name or self.names[0])
+        if self.chance(0.25):
+            found.load = self.placement(self.load)
+        if self.chance(0.25):
+            found.alignment = self.clause(Number(1 << rng.randint(0, 6)), Number(rng.choice([0, 3, 12, 1 << 22])))
+        if self.chance(0.2):
+            found.fill = self.clause(Number(rng.choice([0, 0x90, 0x90909090, (1 << 32) - 1])), Number(1 << 32))
+        self.inside = []
+        found.contents = list(self.contents())
+        self.inside = []
+        self.closed.append(name or self.names[0])
+        return found
+
+    def discarding(self):
+        contents = [random_matcher(self.rng) for _ in range(self.rng.randint(0, 2))]
+        found = Section("/DISCARD/", contents)
+        if self.chance(0.01):
+            found.attribute = "NOLOAD"
+        if self.chance(0.01):
+            found.start = Number(0)
+        if self.chance(0.01):
+            refused = [Constructors(), Location("", self.unbuilt()), Assignment("x", "", Here())]
+            contents.append(self.rng.choice(refused))
+        return found
+
+    def between(self):
+        """What stands in SECTIONS before its next section."""
+        while self.chance(0.4):
+            kind = self.rng.random()
+            if kind < 0.45:
+                yield self.location(self.address, CHANGES[:1] * 8 + ["|", "-", "*"])
+            elif kind < 0.87:
+                yield self.task()
+            else:
+                yield self.discarding()
+
+    def command(self):
+        """An outermost one."""
+        kind = self.rng.random()
+        if kind < 0.6:
+            return self.task()
+        if kind < 0.8:
+            return Location(self.rng.choice(["", "+"]), self.symbol_expression())
+        return Command(self.rng.choice(IDLE)) if kind < 0.985 else Command(self.rng.choice(UNBUILT), False)
+
+    def sections(self, names):
+        statements = []
+        for name in names:
+            statements += self.between()
+            statements.append(self.section(name))
+        return Sections(statements + list(self.between()))
+
+    def script(self):
+        names = list(self.names)
+        if self.chance(0.02):
+            names.append(self.rng.choice([names[0], ""]))
+        parts, commands = self.rng.randint(0, len(names)) if self.chance(0.3) else len(names), []
+        for part in (names[:parts], names[parts:]):
+            commands += [self.command() for _ in range(self.rng.choice([0, 0, 0, 1, 2]))]
+            commands += [self.sections(part)] if part else []
+        while self.waiting and self.chance(0.96):
+            commands.append(self.define(self.waiting.pop()))
+        if self.chance(0.5):
+            commands.append(Assert(self.condition(), "the end"))
+        return commands
+
+
+def random_case(rng):
+    rows = [random_row(rng) for _ in range(rng.randint(0, 12))]
+    names = rng.sample(TABLE_SYMBOLS, rng.randint(0, len(TABLE_SYMBOLS))) if rows else []
+    names += rng.sample(SYMBOLS + names, 1) if names and rng.random() < 0.03 else []
+    symbols = [random_symbol(rng, name, rows) for name in names]
+    return Maker(rng, names).script(), rows, symbols
