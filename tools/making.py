@@ -5,6 +5,8 @@ from placing import FLOATING, Assignment, Command, Constructors, Location, Match
 from placing import Sections, TableSymbol
 
 
+LARGEST = (1 << 64) - 1
+
 # ---- random tables and patterns
 
 ROW_NAMES = [".a", ".b", ".ab", ".a.b", ".text", ".text.x", ".t]x", ".text.y1", "a", "-", ".ba", ".é", ".bb", "", ".A"]
@@ -35,13 +37,14 @@ def random_row(rng):
     chances = {"A": 0.85, "W": 0.3, "X": 0.25, "B": 0.3, "T": 0.1, "E": 0.06}
     letters = [letter for letter, chance in chances.items() if rng.random() < chance]
     flags = "".join(rng.sample(letters, len(letters)))
-    return Row(rng.choice(FILES), rng.choice(ROW_NAMES), rng.choice([0, 0, 1, 3, 4, 8, 17]), alignment, flags)
+    size = rng.choice([0, 0, 1, 3, 4, 8, 17]) if rng.random() < 0.998 else LARGEST - rng.choice([0, 1, 15, 64, 4096])
+    return Row(rng.choice(FILES), rng.choice(ROW_NAMES), size, alignment, flags)
 
 
 def random_symbol(rng, name, rows):
     row = rng.randrange(len(rows))
-    offset = rng.randint(0, rows[row].size) if rng.random() < 0.995 else rows[row].size + 1
-    return TableSymbol(name, row if rng.random() < 0.995 else len(rows), offset)
+    offset = rng.randint(0, rows[row].size) if rng.random() < 0.997 else min(rows[row].size + 1, LARGEST)
+    return TableSymbol(name, row if rng.random() < 0.997 else len(rows), offset)
 
 
 # ---- random scripts
@@ -95,7 +98,7 @@ class Maker:
                    Symbol(self.rng.choice(["none", *self.waiting])), Assert(Number(0), "odd"),
                    Of("ADDR", self.rng.choice(later)),
                    Of("SIZEOF", self.rng.choice(later)), Of("LOADADDR", self.rng.choice(later)),
-                   Align(Number(8), Number((1 << 64) - 1))]
+                   Align(Number(8), Number(LARGEST))]
         if self.symbols:
             choices.append(Symbol(self.rng.choice(self.symbols)))
         return self.rng.choice(choices)
@@ -121,6 +124,8 @@ class Maker:
         """A number that is mostly above all addresses so far."""
         if self.chance(0.06):
             return self.rng.choice([0, 16, self.high // 2, self.high // 2])
+        if self.chance(0.01):
+            return LARGEST - self.rng.choice([0, 1, 7, 15, 40, 64])
         self.high += self.rng.choice([0x140, 0x200, 0x1000])
         return self.high
 
