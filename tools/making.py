@@ -68,11 +68,13 @@ class Maker:
 
     def __init__(self, rng, symbols):
         self.rng = rng
-        # What is above nearly all that was placed so far.
-        self.high = 0
+        # Addresses that are chosen mostly rise; in some scripts they mostly fall.
+        self.falls = self.chance(0.15)
+        # What is above nearly all that was placed so far, or below.
+        self.high = 0x20000 if self.falls else 0
         self.opened, self.closed, self.defined = [], [], []
         # Symbols that ask for nothing but `.`, and those that are defined in the contents of the section at hand.
-        self.simple, self.inside = [], []
+        self.simple, self.inside, self.is_inside = [], [], False
         names = rng.sample(SECTION_NAMES, len(SECTION_NAMES))
         self.names = names[:rng.choice([1, 2, 3, 4, 5, 6, 7])]
         self.symbols = [symbol for symbol in symbols if symbol] + rng.sample(SYMBOLS, rng.randint(0, len(SYMBOLS)))
@@ -92,7 +94,13 @@ class Maker:
         return random_expression(self.rng, depth, words)
 
     def odd_expression(self):
-        """Mostly refused where it is read, and nowhere else."""
+        """Mostly refused where it is read, and nowhere else; sometimes for several reasons."""
+        if self.chance(0.25):
+            one, other = self.odd_expression(), self.odd_expression()
+            operator = self.rng.choice(["+", "/", "%", "==", "<<", "&&"])
+            return self.rng.choice([Binary(operator, one, other), Align(one, other), Call("MIN", one, other),
+                                    Binary("/", one, Number(0)), Align(Number(0), one),
+                                    Choice(one, other, Here()), Assert(Binary("&", one, Number(0)), "odd")])
         later = [name for name in self.names if name not in self.closed] + [".none"]
         choices = [Binary(self.rng.choice("/%"), Number(1), Number(0)), Align(Number(0), None),
                    Symbol(self.rng.choice(["none", *self.waiting])), Assert(Number(0), "odd"),
@@ -121,12 +129,12 @@ class Maker:
                                 Align(Number(4), odd), Assert(Binary("||", Number(1), odd), "m")])
 
     def rising(self):
-        """A number that is mostly above all addresses so far."""
+        """A number that is mostly above all addresses so far, or below all."""
         if self.chance(0.06):
             return self.rng.choice([0, 16, self.high // 2, self.high // 2])
         if self.chance(0.01):
             return LARGEST - self.rng.choice([0, 1, 7, 15, 40, 64])
-        self.high += self.rng.choice([0x140, 0x200, 0x1000])
+        self.high += self.rng.choice([0x140, 0x200, 0x1000]) * (-1 if self.falls else 1)
         return self.high
 
     def known_expression(self):
@@ -161,6 +169,23 @@ class Maker:
             return self.odd_expression()
         return self.any_expression(2) if kind < 0.998 else self.unbuilt()
 
+    def marked_expression(self, depth):
+        """For a symbol in the contents of a section: of numbers, of addresses of that section and of others."""
+        rng = self.rng
+        if depth == 0 or self.chance(0.15):
+            name = rng.choice(self.names)
+            return rng.choice([Here(), Here(), Number(small_number(rng)), Of("ADDR", name), Of("LOADADDR", name),
+                               Of("SIZEOF", name), Of("ADDR", self.opened[-1]), Symbol(rng.choice(self.constants)),
+                               Symbol(rng.choice(self.inside + self.simple + self.constants))])
+        one, other, third = (self.marked_expression(depth - 1) for _ in range(3))
+        low = Binary("|", Binary("&", other, Number(15)), Number(1))
+        return rng.choice([Choice(one, other, third), Choice(Binary("&", one, Number(1)), other, third), Unary("!", one),
+                           Binary(rng.choice(["&&", "||", "==", "<", ">="]), one, other), Align(low, one),
+                           Binary("&", Unary(rng.choice("~-"), one), Number(255)), Align(low, None),
+                           Binary(rng.choice("+|&"), one, other), Binary(rng.choice("/%"), one, low),
+                           Call(rng.choice(["MIN", "MAX"]), one, other), Binary(">>", one, Number(2)),
+                           Assert(Binary("|", one, Number(1)), "m")])
+
     def cursor_expression(self):
         """For a placement in the contents of a section."""
         rng, here = self.rng, self.opened[-1]
@@ -171,8 +196,9 @@ class Maker:
             *[Call("MAX", mark, Here()) for mark in marks], *[Binary("+", mark, Number(128)) for mark in marks],
             Binary("+", Here(), Number(small_number(rng))), Align(Number(rng.choice([1, 4, 6, 16])), None), offset,
             Here(), Call("MAX", Here(), offset), Binary("+", Of("ADDR", here), offset), Align(Number(8), Here()),
-            Binary("+", Here(), self.known_expression()),
-            Choice(Binary("<", Here(), Number(self.high)), Here(), offset),
+            Binary("+", Here(), self.known_expression()), Choice(Of("ADDR", here), Here(), offset),
+            Choice(Binary("<", Here(), Number(self.high)), Here(), offset), Binary("+", Here(), Of("ALIGNOF", here)),
+            Number(0x3000) if self.chance(0.2) else Here(),
         ])
 
     def simple_expression(self):
@@ -184,6 +210,8 @@ class Maker:
         """Of a symbol that no placement asks for."""
         rng = self.rng
         kind = rng.random()
+        if self.is_inside and kind < 0.5:
+            return self.marked_expression(rng.choice([1, 2, 2, 3]))
         if kind < 0.2:
             return self.simple_expression()
         if kind < 0.6:
@@ -200,7 +228,9 @@ class Maker:
                                Binary("-", Call("MAX", other, Here()), other)])
         if kind < 0.93:
             return self.unread(Here())
-        return self.any_expression(rng.choice([1, 2, 2, 3])) if kind < 0.999 else self.unbuilt()
+        if kind < 0.99:
+            return self.any_expression(rng.choice([1, 2, 2, 3]))
+        return self.odd_expression() if kind < 0.997 else self.unbuilt()
 
     def condition(self):
         rng = self.rng
@@ -263,8 +293,8 @@ class Maker:
         self.defined += names
         first, other = Symbol(names[0]), Number(self.rng.choice([1, 8]))
         far = Binary("+", Number(1 << 20), Of("ADDR", self.rng.choice(self.names)))
-        values = [Of("ADDR", self.rng.choice(self.opened)), Symbol(self.rng.choice(self.constants)), far, far,
-                  Binary("+", Here(), other), Binary("-", Of("ADDR", self.opened[-1]), other)]
+        values = [Of("ADDR", self.rng.choice(self.opened)), Symbol(self.rng.choice(self.constants)), far, far, far,
+                  Binary("+", Here(), other), Here(), Binary("-", Of("ADDR", self.opened[-1]), other)]
         yield Assignment(names[0], "", self.rng.choice(values))
         values = [first, Binary("+", first, other), Binary("-", first, Here()), Binary("<", Here(), first),
                   Unary("!", Call("MIN", first, other))]
@@ -314,9 +344,9 @@ class Maker:
             found.alignment = self.clause(Number(1 << rng.randint(0, 6)), Number(rng.choice([0, 3, 12, 1 << 22])))
         if self.chance(0.2):
             found.fill = self.clause(Number(rng.choice([0, 0x90, 0x90909090, (1 << 32) - 1])), Number(1 << 32))
-        self.inside = []
+        self.inside, self.is_inside = [], True
         found.contents = list(self.contents())
-        self.inside = []
+        self.inside, self.is_inside = [], False
         self.closed.append(name or self.names[0])
         return found
 
