@@ -179,8 +179,8 @@ class Maker:
                                Symbol(rng.choice(self.inside + self.simple + self.constants))])
         one, other, third = (self.marked_expression(depth - 1) for _ in range(3))
         low = Binary("|", Binary("&", other, Number(15)), Number(1))
-        return rng.choice([Choice(one, other, third), Choice(Binary("&", one, Number(1)), other, third), Align(low, one),
-                           Binary(rng.choice(["&&", "||", "==", "<", ">="]), one, other), Unary("!", one),
+        return rng.choice([Choice(one, other, third), Choice(Binary("&", one, Number(1)), other, third),
+                           Align(low, one), Binary(rng.choice(["&&", "||", "==", "<", ">="]), one, other), Unary("!", one),
                            Binary("&", Unary(rng.choice("~-"), one), Number(255)), Align(low, None),
                            Binary(rng.choice("+|&"), one, other), Binary(rng.choice("/%"), one, low),
                            Call(rng.choice(["MIN", "MAX"]), one, other), Binary(">>", one, Number(2)),
