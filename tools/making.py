@@ -180,7 +180,8 @@ class Maker:
         one, other, third = (self.marked_expression(depth - 1) for _ in range(3))
         low = Binary("|", Binary("&", other, Number(15)), Number(1))
         return rng.choice([Choice(one, other, third), Choice(Binary("&", one, Number(1)), other, third),
-                           Align(low, one), Binary(rng.choice(["&&", "||", "==", "<", ">="]), one, other), Unary("!", one),
+                           Align(low, one), Unary("!", one),
+                           Binary(rng.choice(["&&", "||", "==", "<", ">="]), one, other),
                            Binary("&", Unary(rng.choice("~-"), one), Number(255)), Align(low, None),
                            Binary(rng.choice("+|&"), one, other), Binary(rng.choice("/%"), one, low),
                            Call(rng.choice(["MIN", "MAX"]), one, other), Binary(">>", one, Number(2)),
