@@ -10,7 +10,9 @@ SECTIONS {
     }
     .eh_frame : { *(.eh_frame) }
     .data : { *(.data .data.readings .data.calls) }
+    .bss : { *(.bss) }
     data_end = .;
+    /DISCARD/ : { *(.comment .note.GNU-stack) }
     ASSERT(data_end <= 1K, "hello does not fit")
 }
 PROVIDE(heap_start = ALIGN(data_end, 4K));
