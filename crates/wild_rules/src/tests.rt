@@ -10,6 +10,8 @@ const DISCARD: SectionRuleOutcome = SectionRuleOutcome::Discard;
 
 const DEBUG: SectionRuleOutcome = SectionRuleOutcome::Debug;
 
+const EH_FRAME: SectionRuleOutcome = SectionRuleOutcome::EhFrame;
+
 // Whether the rule, and a copy of it, match.
 fn both_match(
     rt: &impl Abort,
@@ -222,7 +224,7 @@ fn first_match(rt: HostRuntime) {
 fn rules_of_short_names(alloc: Global) -> Result<SectionRules, NoMemory> {
     let one = SectionRule::exact(alloc, b"a", DISCARD)?;
     let four = SectionRule::exact(alloc, b"a\0\0\0", DEBUG)?;
-    let short = SectionRule::prefix(alloc, b"a\0", SectionRuleOutcome::EhFrame)?;
+    let short = SectionRule::prefix(alloc, b"a\0", EH_FRAME)?;
     let three = SectionRule::exact(alloc, b"a\0\0", DISCARD)?;
     SectionRules::from_rules(alloc, &[one, four, short, three])
 }
@@ -230,13 +232,16 @@ fn rules_of_short_names(alloc: Global) -> Result<SectionRules, NoMemory> {
 #[test]
 fn zeros_in_names(rt: HostRuntime) -> Result<(), Fail> {
     let rules = rules_of_short_names(rt.alloc())?;
-    let eh_frame = Some(SectionRuleOutcome::EhFrame);
     for (case, name, wanted) in [
         ("one byte", b"a".as_slice(), Some(DISCARD)),
         ("four bytes of the same key", b"a\0\0\0", Some(DEBUG)),
-        ("a short rule before one with the key", b"a\0\0", eh_frame),
-        ("a short rule", b"a\0", eh_frame),
-        ("five bytes", b"a\0\0\0\0", eh_frame),
+        (
+            "a short rule before one with the key",
+            b"a\0\0",
+            Some(EH_FRAME),
+        ),
+        ("a short rule", b"a\0", Some(EH_FRAME)),
+        ("five bytes", b"a\0\0\0\0", Some(EH_FRAME)),
         ("another byte", b"b", None),
         ("a zero", b"\0", None),
         ("no name", b"", None),
@@ -253,7 +258,7 @@ fn rules_with_wildcards(alloc: Global) -> Result<SectionRules, RuleFault> {
     let late = SectionRule::new(alloc, b".text.*", None, DEBUG)?;
     let other = SectionRule::new(alloc, b".\xc3\xa9.*", None, CUSTOM)?;
     let escaped = SectionRule::new(alloc, b"\\*abc*", None, CUSTOM)?;
-    let last = SectionRule::new(alloc, b".t*", None, SectionRuleOutcome::EhFrame)?;
+    let last = SectionRule::new(alloc, b".t*", None, EH_FRAME)?;
     let rules = SectionRules::from_rules(alloc, &[early, late, other, escaped, last])?;
     Ok(rules)
 }
@@ -261,12 +266,11 @@ fn rules_with_wildcards(alloc: Global) -> Result<SectionRules, RuleFault> {
 #[test]
 fn wildcards_at_the_start(rt: HostRuntime) {
     let rules = rules_with_wildcards(rt.alloc()).expect(&rt, "rules");
-    let eh_frame = Some(SectionRuleOutcome::EhFrame);
     for (case, name, wanted) in [
         ("among four", b".text".as_slice(), Some(DISCARD)),
         ("behind four, before the last", b".text.a", Some(DEBUG)),
-        ("the last", b".texta", eh_frame),
-        ("fewer than four bytes", b".t", eh_frame),
+        ("the last", b".texta", Some(EH_FRAME)),
+        ("fewer than four bytes", b".t", Some(EH_FRAME)),
         ("two bytes", b".\xc3\xa9.a", Some(CUSTOM)),
         ("an escape", b"*abcd", Some(CUSTOM)),
         ("none", b"abcd", None),
