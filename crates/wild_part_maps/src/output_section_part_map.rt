@@ -1,0 +1,218 @@
+//! Maps from the parts of output sections.
+
+ghost use Rattle.std.specs.Prelude.{◌≡◌, ℕ, ◌+◌, ◌-◌, ◌<◌, ◌≤◌, ◌^◌, ◌||◌, Bool, false, if◌then◌else◌, None, List, [], ◌∷◌, Some, IsTrue, IfOk, OnOk, OnErr, IsOk, length};
+ghost use Rattle.std.specs.Borrow.{Lends, LendsSoOk, sem};
+ghost use Rattle.std.specs.List.{All};
+ghost use Rattle.std.specs.Map.{values_of};
+ghost use Rattle.wild_part_maps.specs.contracts.output_section_part_map.OutputSectionPartMap.{the_row};
+ghost use Rattle.wild_part_maps.specs.Calls.{MapsEntries, ChangesEntries};
+ghost use Rattle.wild_part_maps.specs.Changes.{with_value, Updates, Reserves, AddsDefaults, IsSum, SameNumbers};
+ghost use Rattle.wild_part_maps.specs.Parts.{PartValues, RisesFrom, entries, entries_in, has_entry, is_between, kept, value_in, IsValueAt, number_at};
+ghost use Rattle.wild_part_maps.specs.Starts.{Starts};
+
+use crate::range_iterator::{RangeIterator, RangeValues};
+use std::alloc::{AllocError, Global};
+use std::collections::BTreeMap;
+use std::marker::Model;
+use std::mem;
+use std::ops::Range;
+use wild_ids::PartId;
+use wild_names::NoMemory;
+
+/// A value for each part of output sections. The first parts, the dense ones, each have an entry; of further parts
+/// those that were asked to be changed have one. What has no entry counts as a default. Contracts see the map as the
+/// dense values, and the further parts with theirs.
+#[derive(Debug, Drop)]
+pub struct OutputSectionPartMap<T> {
+    parts: Vec<T>,
+    sparse: BTreeMap<PartId, T>,
+}
+
+impl<T> Model for OutputSectionPartMap<T> {
+    ghost use Rattle.std.specs.Prelude.{◌<◌, ◌^◌, length};
+    ghost use Rattle.wild_part_maps.specs.Parts.{PartValues, RisesFrom};
+
+    ghost Value = { PartValues T };
+
+    ghost view = { λ map. record { dense = map.parts.items; sparse = map.sparse.entries } };
+
+    ghost invariant = { λ map. (length map.parts.items < 2 ^ 32) × RisesFrom (length map.parts.items) map.sparse.entries };
+}
+
+impl<T: Default> OutputSectionPartMap<T> {
+    /// A map with so many dense parts, fewer than 2 ^ 32, each with a default value, and no others. Fails where memory
+    /// runs out.
+    pub fn with_dense_size(
+        alloc: Global,
+        size: usize,
+    ) -> Result<OutputSectionPartMap<T>, NoMemory>
+        requires { size < 2 ^ 32 }
+        ensures size { IfOk result (λ map. length map.dense ≡ size) }
+        ensures defaults { IfOk result (λ map. All T.is_default map.dense) }
+        ensures sparse { IfOk result (λ map. map.sparse ≡ []) }
+    {
+        let mut parts = Vec::with_capacity(alloc, size)?;
+        for _ in 0..size {
+            parts.push_reserved(T::default());
+        }
+        Ok(OutputSectionPartMap {
+            parts,
+            sparse: BTreeMap::new(alloc),
+        })
+    }
+}
+
+impl<T> OutputSectionPartMap<T> {
+    /// A map with as many dense parts, each with a default value, and no others. Fails where memory runs out.
+    pub fn new_empty_like<U: Default>(
+        &self,
+        alloc: Global,
+    ) -> Result<OutputSectionPartMap<U>, NoMemory>
+        ensures size { IfOk result (λ map. length map.dense ≡ length self.now.dense) }
+        ensures defaults { IfOk result (λ map. All U.is_default map.dense) }
+        ensures sparse { IfOk result (λ map. map.sparse ≡ []) }
+    {
+        OutputSectionPartMap::with_dense_size(alloc, self.parts.len())
+    }
+
+    /// Whether the part has an entry: it is dense, or a value is kept for it.
+    pub fn has_entry(&self, part: PartId) -> bool
+        ensures { result ≡ has_entry self.now part }
+    {
+        if part.as_usize() < self.parts.len() {
+            return true;
+        }
+        self.sparse.contains_key(&part)
+    }
+
+    /// The value of the part, or a default where it has no entry.
+    pub fn get(&self, part: PartId) -> T
+    where
+        T: Default + Copy,
+        ensures { IsValueAt T.is_default self.now part result }
+    {
+        if part.as_usize() < self.parts.len() {
+            return self.parts[part.as_usize()];
+        }
+        match self.sparse.get(&part) {
+            Some(value) => *value,
+            None => T::default(),
+        }
+    }
+
+    /// The value of a part that has an entry, to be changed.
+    fn lent(&mut self, part: PartId) -> &mut T
+        requires { IsTrue (has_entry self.old part) }
+        ensures* writes_back { sem 𝓛 (Lends (the_row T.row) T.row self.entry result (with_value self.old part)) }
+        ensures value { kept self.old part ≡ Some result.now }
+    {
+        if part.as_usize() < self.parts.len() {
+            return &mut self.parts[part.as_usize()];
+        }
+        match self.sparse.get_mut(&part) {
+            Some(value) => value,
+            None => unreachable!(),
+        }
+    }
+
+    /// The entries of a range of parts that is not reversed, in rising order.
+    pub fn in_range(&self, range: Range<PartId>) -> RangeIterator<'_, T>
+        requires { range.start ≤ range.end }
+        ensures value { result ≡ entries_in self.now range.start range.end }
+        ensures rising { RisesFrom range.start result }
+        ensures listed { (q : ℕ) → value_in result q ≡ (if is_between range.start range.end q then kept self.now q else None) }
+    {
+        let len = self.parts.len();
+        let first = range.start.as_usize().min(len);
+        let last = range.end.as_usize().min(len);
+        RangeIterator {
+            next: first as u32,
+            dense: &self.parts[first..last],
+            sparse: self.sparse.range(range),
+        }
+    }
+
+    /// The values of these entries, in the same order.
+    pub fn values_in_range(&self, range: Range<PartId>) -> RangeValues<'_, T>
+        requires { range.start ≤ range.end }
+        ensures { result ≡ values_of (entries_in self.now range.start range.end) }
+    {
+        RangeValues {
+            entries: self.in_range(range),
+        }
+    }
+
+    /// All entries, in rising order of the parts.
+    pub fn iter(&self) -> RangeIterator<'_, T>
+        ensures value { result ≡ entries self.now }
+        ensures rising { RisesFrom 0 result }
+        ensures listed { (q : ℕ) → value_in result q ≡ kept self.now q }
+    {
+        RangeIterator {
+            next: 0,
+            dense: &self.parts,
+            sparse: self.sparse.range(..),
+        }
+    }
+}
+
+impl<T: Default + Drop> OutputSectionPartMap<T> {
+    /// Keeps a default value for the part, where it has no entry. Then it may fail where memory runs out, and nothing
+    /// has changed.
+    pub fn reserve_part(&mut self, part: PartId) -> Result<(), NoMemory>
+        ensures ok { OnOk result (Reserves T.is_default self.old part self.new) }
+        ensures err { OnErr result (self.new ≡ self.old) }
+        ensures succeeds { IsTrue (has_entry self.old part) → IsOk result }
+    {
+        if self.has_entry(part) {
+            return Ok(());
+        }
+        match self.sparse.insert(part, T::default()) {
+            Ok(_) => Ok(()),
+            Err(error) => Err(AllocError::from(error).into()),
+        }
+    }
+
+    /// The value of the part, to be changed. A part without an entry gets one, with a default value: then it may fail
+    /// where memory runs out, and nothing has changed.
+    pub fn get_mut(&mut self, part: PartId) -> Result<&mut T, NoMemory>
+        ensures* writes_back { sem 𝓛 (LendsSoOk (the_row T.row) T.row self.entry result (λ n w. Updates self.old part w n) (λ n. n ≡ self.old)) }
+        ensures value { IfOk result (λ lent. IsValueAt T.is_default self.old part lent.now) }
+        ensures succeeds { IsTrue (has_entry self.old part) → IsOk result }
+    {
+        self.reserve_part(part)?;
+        Ok(self.lent(part))
+    }
+
+    /// Takes the value of the part out, and leaves a default. A part without an entry gets one: then it may fail where
+    /// memory runs out, and nothing has changed.
+    pub fn take(&mut self, part: PartId) -> Result<T, NoMemory>
+        ensures value { IfOk result (λ v. IsValueAt T.is_default self.old part v) }
+        ensures left { OnOk result ((d : T) × T.is_default d × Updates self.old part d self.new) }
+        ensures err { OnErr result (self.new ≡ self.old) }
+        ensures succeeds { IsTrue (has_entry self.old part) → IsOk result }
+    {
+        self.reserve_part(part)?;
+        Ok(mem::replace(self.lent(part), T::default()))
+    }
+}
+
+impl OutputSectionPartMap<u64> {
+    /// Adds to the value of a part that has an entry. The sum has to be below 2 ^ 64.
+    pub fn increment(&mut self, part: PartId, size: u64)
+        requires entry { IsTrue (has_entry self.old part) }
+        requires fits { number_at self.old part + size < 2 ^ 64 }
+        ensures { Updates self.old part (number_at self.old part + size) self.new }
+    {
+        *self.lent(part) += size;
+    }
+
+    /// Subtracts from the value of a part that has an entry, and at least this value.
+    pub fn decrement(&mut self, part: PartId, size: u64)
+        requires entry { IsTrue (has_entry self.old part) }
+        requires fits { size ≤ number_at self.old part }
+        ensures { Updates self.old part (number_at self.old part - size) self.new }
+    {
+        *self.lent(part) -= size;
+    }
+}
