@@ -1,3 +1,6 @@
 pub mod Between
+pub mod Called
+pub mod Lists
+pub mod Reserved
 pub mod Rising
 pub mod Written

@@ -11,7 +11,7 @@ ghost use Rattle.wild_part_maps.specs.Parts.{PartValues, RisesFrom, entries, ent
 ghost use Rattle.wild_part_maps.specs.Starts.{Starts};
 
 use crate::range_iterator::{RangeIterator, RangeValues};
-use std::alloc::{AllocError, Global};
+use std::alloc::Global;
 use std::collections::BTreeMap;
 use std::marker::Model;
 use std::mem;
@@ -167,10 +167,8 @@ impl<T: Default + Drop> OutputSectionPartMap<T> {
         if self.has_entry(part) {
             return Ok(());
         }
-        match self.sparse.insert(part, T::default()) {
-            Ok(_) => Ok(()),
-            Err(error) => Err(AllocError::from(error).into()),
-        }
+        self.sparse.insert(part, T::default())?;
+        Ok(())
     }
 
     /// The value of the part, to be changed. A part without an entry gets one, with a default value: then it may fail
@@ -214,5 +212,78 @@ impl OutputSectionPartMap<u64> {
         ensures { Updates self.old part (number_at self.old part - size) self.new }
     {
         *self.lent(part) -= size;
+    }
+}
+
+impl<T: Default + Drop> OutputSectionPartMap<T> {
+    /// Keeps a default value for each part that has an entry in the other map, and none here.
+    #[tactic(auto, using(crate::proofs::Reserved::adds_more))]
+    fn reserve_entries<U>(&mut self, other: &OutputSectionPartMap<U>) -> Result<(), NoMemory>
+        ensures adds { AddsDefaults T.is_default self.old self.new }
+        ensures parts { OnOk result ((q : ℕ) → has_entry self.new q ≡ (has_entry self.old q || has_entry other.now q)) }
+    {
+        let mut left = other.iter();
+        while let Some((part, _)) = left.next() {
+            self.reserve_part(part)?;
+        }
+        Ok(())
+    }
+
+    /// Puts a value in place of that of a part that has an entry.
+    fn put(&mut self, part: PartId, value: T)
+        requires { IsTrue (has_entry self.old part) }
+        ensures { Updates self.old part value self.new }
+    {
+        *self.lent(part) = value;
+    }
+}
+
+impl<T> OutputSectionPartMap<T> {
+    /// A map with a default value for each part that has an entry here.
+    fn defaults<U: Default + Drop>(
+        &self,
+        alloc: Global,
+    ) -> Result<OutputSectionPartMap<U>, NoMemory>
+        ensures size { IfOk result (λ map. length map.dense ≡ length self.now.dense) }
+        ensures parts { IfOk result (λ map. (q : ℕ) → has_entry map q ≡ has_entry self.now q) }
+    {
+        let mut map = self.new_empty_like(alloc)?;
+        map.reserve_entries(self)?;
+        Ok(map)
+    }
+
+    /// The closure's answers at the entries, in rising order of the parts: they are the values of the same parts in a
+    /// map with as many dense parts. Fails where memory runs out, before the first call.
+    pub fn map<U: Default + Drop, F: FnMut(PartId, &T) -> U>(
+        &self,
+        alloc: Global,
+        cb: F,
+    ) -> Result<OutputSectionPartMap<U>, NoMemory>
+        requires { F.IsAlwaysCallable cb }
+        ensures size { IfOk result (λ map. length map.dense ≡ length self.now.dense) }
+        ensures parts { IfOk result (λ map. (q : ℕ) → has_entry map q ≡ has_entry self.now q) }
+        ensures calls { IfOk result (λ map. (last : F) × MapsEntries F.step map cb (entries self.now) last) }
+    {
+        let mut answers = self.defaults(alloc)?;
+        map_entries(self, &mut answers, cb);
+        Ok(answers)
+    }
+}
+
+/// Calls the closure at each entry, in rising order of the parts, and puts its answers.
+fn map_entries<T, U: Default + Drop, F: FnMut(PartId, &T) -> U>(
+    source: &OutputSectionPartMap<T>,
+    answers: &mut OutputSectionPartMap<U>,
+    mut cb: F,
+)
+    requires callable { F.IsAlwaysCallable cb }
+    requires entries { (q : ℕ) → has_entry answers.old q ≡ has_entry source.now q }
+    ensures size { length answers.new.dense ≡ length answers.old.dense }
+    ensures parts { (q : ℕ) → has_entry answers.new q ≡ has_entry source.now q }
+    ensures calls { (last : F) × MapsEntries F.step answers.new cb (entries source.now) last }
+{
+    let mut left = source.iter();
+    while let Some((part, value)) = left.next() {
+        answers.put(part, cb(part, value));
     }
 }

@@ -67,7 +67,9 @@ impl<'a, T> Iterator for RangeValues<'a, T> {
     ghost remaining = { item_count (λ left. left) };
 
     fn next(&mut self) -> Option<&'a T> {
-        let (_, value) = self.entries.next()?;
-        Some(value)
+        match self.entries.next() {
+            Some((_, value)) => Some(value),
+            None => None,
+        }
     }
 }
