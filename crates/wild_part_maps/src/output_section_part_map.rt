@@ -287,3 +287,127 @@ fn map_entries<T, U: Default + Drop, F: FnMut(PartId, &T) -> U>(
         answers.put(part, cb(part, value));
     }
 }
+
+impl<T: Default + Drop> OutputSectionPartMap<T> {
+    /// Calls the closure at each part that has an entry in the other map, in rising order, with the value here, which
+    /// it may change, and the value there. Its answers are the values of these parts in a map with as many dense parts
+    /// as the other. Other parts stay. Where memory runs out nothing has changed, but that parts may have entries with
+    /// default values.
+    pub fn mut_with_map<U, V: Default + Drop, F: FnMut(&mut T, &U) -> V>(
+        &mut self,
+        other: &OutputSectionPartMap<U>,
+        cb: F,
+    ) -> Result<OutputSectionPartMap<V>, NoMemory>
+        requires { F.IsAlwaysCallable cb }
+        ensures size { IfOk result (λ map. length map.dense ≡ length other.now.dense) }
+        ensures parts { IfOk result (λ map. (q : ℕ) → has_entry map q ≡ has_entry other.now q) }
+        ensures calls { IfOk result (λ map. (last : F) × ChangesEntries F.step (IsValueAt T.is_default self.old) self.new map cb (entries other.now) last) }
+        ensures same_size { length self.new.dense ≡ length self.old.dense }
+        ensures others { OnOk result ((q : ℕ) → has_entry other.now q ≡ false → kept self.new q ≡ kept self.old q) }
+        ensures err { OnErr result (AddsDefaults T.is_default self.old self.new) }
+    {
+        let mut answers = other.defaults(*self.parts.allocator())?;
+        self.reserve_entries(other)?;
+        change_entries(self, other, &mut answers, cb);
+        Ok(answers)
+    }
+}
+
+/// Calls the closure at each entry of the second map, in rising order of the parts, and puts its answers.
+fn change_entries<T, U, V: Default + Drop, F: FnMut(&mut T, &U) -> V>(
+    map: &mut OutputSectionPartMap<T>,
+    other: &OutputSectionPartMap<U>,
+    answers: &mut OutputSectionPartMap<V>,
+    mut cb: F,
+)
+    requires callable { F.IsAlwaysCallable cb }
+    requires parts { (q : ℕ) → IsTrue (has_entry other.now q) → IsTrue (has_entry map.old q) }
+    requires answers { (q : ℕ) → has_entry answers.old q ≡ has_entry other.now q }
+    ensures same_size { length map.new.dense ≡ length map.old.dense }
+    ensures others { (q : ℕ) → has_entry other.now q ≡ false → kept map.new q ≡ kept map.old q }
+    ensures size { length answers.new.dense ≡ length answers.old.dense }
+    ensures answers { (q : ℕ) → has_entry answers.new q ≡ has_entry other.now q }
+    ensures calls { (last : F) × ChangesEntries F.step (λ q x. kept map.old q ≡ Some x) map.new answers.new cb (entries other.now) last }
+{
+    let mut left = other.iter();
+    while let Some((part, value)) = left.next() {
+        let answer = cb(map.lent(part), value);
+        answers.put(part, answer);
+    }
+}
+
+impl OutputSectionPartMap<u64> {
+    /// Adds the other map, part by part. Each sum has to be below 2 ^ 64. Where memory runs out each part has the number
+    /// that it had, though it may have an entry now.
+    pub fn merge(&mut self, rhs: &OutputSectionPartMap<u64>) -> Result<(), NoMemory>
+        requires { (q : ℕ) → number_at self.old q + number_at rhs.now q < 2 ^ 64 }
+        ensures ok { OnOk result (IsSum self.old rhs.now self.new) }
+        ensures parts { OnOk result ((q : ℕ) → has_entry self.new q ≡ (has_entry self.old q || has_entry rhs.now q)) }
+        ensures err { OnErr result (AddsDefaults (λ n. n ≡ 0) self.old self.new) }
+    {
+        self.reserve_entries(rhs)?;
+        add_entries(self, rhs);
+        Ok(())
+    }
+
+    /// Adds sizes, part by part, and answers where the ranges of these sizes start: at each part that has an entry in
+    /// `sizes`, what was there before. Each sum has to be below 2 ^ 64. Where memory runs out each part has the number
+    /// that it had, though it may have an entry now.
+    pub fn merge_and_return_start_offsets(
+        &mut self,
+        sizes: &OutputSectionPartMap<u64>,
+    ) -> Result<OutputSectionPartMap<u64>, NoMemory>
+        requires { (q : ℕ) → number_at self.old q + number_at sizes.now q < 2 ^ 64 }
+        ensures ok { IfOk result (Starts self.old sizes.now self.new) }
+        ensures err { OnErr result (AddsDefaults (λ n. n ≡ 0) self.old self.new) }
+    {
+        let starts = self.numbers_at(sizes)?;
+        self.merge(sizes)?;
+        Ok(starts)
+    }
+
+    /// The numbers of the parts that have an entry in the other map.
+    fn numbers_at(
+        &self,
+        other: &OutputSectionPartMap<u64>,
+    ) -> Result<OutputSectionPartMap<u64>, NoMemory>
+        ensures size { IfOk result (λ map. length map.dense ≡ length other.now.dense) }
+        ensures numbers { IfOk result (λ map. (q : ℕ) → kept map q ≡ (if has_entry other.now q then Some (number_at self.now q) else None)) }
+    {
+        other.map(*self.parts.allocator(), |part, _| self.get(part))
+    }
+}
+
+/// Adds each entry of the second map, whose parts have entries in the first.
+fn add_entries(map: &mut OutputSectionPartMap<u64>, sizes: &OutputSectionPartMap<u64>)
+    requires parts { (q : ℕ) → IsTrue (has_entry sizes.now q) → IsTrue (has_entry map.old q) }
+    requires fits { (q : ℕ) → number_at map.old q + number_at sizes.now q < 2 ^ 64 }
+    ensures sums { IsSum map.old sizes.now map.new }
+    ensures parts { (q : ℕ) → has_entry map.new q ≡ has_entry map.old q }
+{
+    let mut left = sizes.iter();
+    while let Some((part, value)) = left.next() {
+        map.increment(part, *value);
+    }
+}
+
+impl<T: PartialEq> PartialEq for OutputSectionPartMap<T> {
+    ghost use Rattle.std.specs.Prelude.{◌&&◌, nat_eq};
+    ghost use Rattle.std.specs.Cmp.{nat_eq_equiv, partial_equiv_from_equiv, on_per, and_per};
+    ghost use Rattle.std.specs.Cmp.Lexicographic.{lists_per, pointwise};
+
+    ghost eq = { λ a b. pointwise T.eq a.dense b.dense && pointwise (λ x y. nat_eq x.0 y.0 && T.eq x.1 y.1) a.sparse b.sparse };
+
+    ghost laws = { and_per (on_per (λ m. m.dense) (lists_per T.laws)) (on_per (λ m. m.sparse) (lists_per (and_per (on_per (λ e. e.0) (partial_equiv_from_equiv nat_eq_equiv)) (on_per (λ e. e.1) T.laws)))) };
+
+    fn eq(&self, other: &OutputSectionPartMap<T>) -> bool {
+        self.parts == other.parts && self.sparse == other.sparse
+    }
+}
+
+impl<T: Eq> Eq for OutputSectionPartMap<T> {
+    ghost use Rattle.std.specs.Cmp.{nat_eq_equiv, on_equiv, and_equiv};
+    ghost use Rattle.std.specs.Cmp.Lexicographic.{lists_equiv};
+
+    ghost laws = { and_equiv (on_equiv (λ m. m.dense) (lists_equiv T.Eq.laws)) (on_equiv (λ m. m.sparse) (lists_equiv (and_equiv (on_equiv (λ e. e.0) nat_eq_equiv) (on_equiv (λ e. e.1) T.Eq.laws)))) };
+}
