@@ -3,12 +3,13 @@ use Rattle.std.proofs.Common.{◌≡◌, ℕ, ◌+◌, ◌<◌, ◌≤◌, List,
 use Rattle.std.specs.Borrow.{Bor, MutBor}
 use Rattle.std.specs.Prelude.{is_some, IsTrue, if◌then◌else◌}
 use Rattle.std.proofs.lemmas.Bool.{cases_Bool}
-use Rattle.std.proofs.lemmas.List.{append_assoc}
+use Rattle.std.proofs.lemmas.List.{append_assoc, append-nil}
 use Rattle.std.proofs.lemmas.Bool.Decides.{nat_tests}
 use Rattle.wild_part_maps.specs.Calls.{MapsEntries, ChangesEntries}
-use Rattle.wild_part_maps.specs.Changes.{Updates}
+use Rattle.wild_part_maps.specs.Changes.{Updates, with_value}
 use Rattle.wild_part_maps.specs.Parts.{PartValues, entries, has_entry, kept, is_part, value_in, RisesFrom}
 use Rattle.wild_part_maps.proofs.Reserved.{has_listed}
+use Rattle.wild_part_maps.proofs.Written.{with_value-updates}
 
 below_next : {T : Type 0} (limit : ℕ) (done rest : List (ℕ × T)) (e : ℕ × T) → RisesFrom limit (done ++ e ∷ rest) → limit ≤ e.0
 below_next limit [] rest e rising = rising.0
@@ -53,6 +54,17 @@ module _ {T : Type 0} where
     | inr away ↦ rw away (none_push done e q (rw away at none))
   ]
 
+-- what is lent for a part and written is kept for it
+pub lent_at : {T : Type 0} (m : PartValues T) (own part : ℕ) (x v : T) → kept m own ≡ Some x → own ≡ part → Updates m part v (with_value m own v) × (kept m part ≡ Some x)
+lent_at m own part x v there same = (subst (λ q. Updates m q v (with_value m own v)) same (with_value-updates m own v (ap is_some there)), subst (λ q. kept m q ≡ Some x) same there)
+
+-- a part that was not called at has the value that it had
+pub still_same : {T U : Type 0} (first old new : PartValues T) (done : List (ℕ × U)) (e : ℕ × U) (v : T) → Updates old e.0 v new → ((q : ℕ) → value_in done q ≡ None → kept old q ≡ kept first q)
+    → (q : ℕ) → value_in (done ++ e ∷ []) q ≡ None → kept new q ≡ kept first q
+still_same first old new done e v updates same q none =
+    let both = none_push done e q none in
+    (rw both.1 at (updates.values q)) ∙ same q both.0
+
 module _ {F T U : Type 0} (step : F → ℕ → Bor T → U → F → Type 0) where
   pub maps_more : (old new : PartValues U) (limit : ℕ) (done rest : List (ℕ × T)) (e : ℕ × T) (p q r : F) (shown : Bor T) (answer : U) → RisesFrom limit (done ++ e ∷ rest)
       → Updates old e.0 answer new → shown.now ≡ e.1 → MapsEntries step old p done q → step q e.0 shown answer r → MapsEntries step new p (done ++ e ∷ []) r
@@ -72,10 +84,10 @@ module _ {F T U : Type 0} (step : F → ℕ → Bor T → U → F → Type 0) wh
       )
 
 module _ {F T U V : Type 0} (step : F → MutBor T → Bor U → V → MutBor T → F → Type 0) (before : ℕ → T → Type 0) where
-  pub changes_more : (old new : PartValues T) (fewer more : PartValues V) (limit : ℕ) (done rest : List (ℕ × U)) (e : ℕ × U) (p q r : F) (lent left : MutBor T) (shown : Bor U) (answer : V)
-      → RisesFrom limit (done ++ e ∷ rest) → Updates old e.0 left.now new → Updates fewer e.0 answer more → before e.0 lent.now → shown.now ≡ e.1
-      → ChangesEntries step before old fewer p done q → step q lent shown answer left r → ChangesEntries step before new more p (done ++ e ∷ []) r
-  changes_more old new fewer more limit [] rest e p q r lent left shown answer rising writes puts starts shows same called =
+  pub changes_more : (old new : PartValues T) (fewer more : PartValues V) (done rest : List (ℕ × U)) (e : ℕ × U) (p q r : F) (lent left : MutBor T) (shown : Bor U) (answer : V) → step q lent shown answer left r
+      → Updates old e.0 left.now new → Updates fewer e.0 answer more → before e.0 lent.now → shown.now ≡ e.1 → (limit : ℕ) → RisesFrom limit (done ++ e ∷ rest)
+      → ChangesEntries step before old fewer p done q → ChangesEntries step before new more p (done ++ e ∷ []) r
+  changes_more old new fewer more [] rest e p q r lent left shown answer called writes puts starts shows limit rising same =
       (
         r,
         record {
@@ -91,7 +103,7 @@ module _ {F T U V : Type 0} (step : F → MutBor T → Bor U → V → MutBor T 
         },
         refl,
       )
-  changes_more old new fewer more limit (d ∷ done) rest e p q r lent left shown answer rising writes puts starts shows calls called =
+  changes_more old new fewer more (d ∷ done) rest e p q r lent left shown answer called writes puts starts shows limit rising calls =
       let low : d.0 < e.0 = omega (arith, below_next (d.0 + 1) done rest e rising.1) in (
         calls.0,
         record {
@@ -105,8 +117,11 @@ module _ {F T U V : Type 0} (step : F → MutBor T → Bor U → V → MutBor T 
           answers_at = kept_apart fewer more e.0 d.0 answer puts low ∙ calls.1.answers_at;
           called = calls.1.called;
         },
-        changes_more old new fewer more (d.0 + 1) done rest e calls.0 q r lent left shown answer rising.1 writes puts starts shows calls.2 called,
+        changes_more old new fewer more done rest e calls.0 q r lent left shown answer called writes puts starts shows (d.0 + 1) rising.1 calls.2,
       )
+
+  pub changes_all : (after : PartValues T) (answers : PartValues V) (all done left : List (ℕ × U)) (p q : F) → done ++ left ≡ all → left ≡ [] → ChangesEntries step before after answers p done q → ChangesEntries step before after answers p all q
+  changes_all after answers all done left p q is none calls = subst (λ es. ChangesEntries step before after answers p es q) (sym (append-nil done) ∙ (rw none at is)) calls
 
   -- what is said of the values before may be said otherwise
   pub changes_from : (other : ℕ → T → Type 0) → ((q : ℕ) (x : T) → before q x → other q x) → (after : PartValues T) (answers : PartValues V) (p : F) (es : List (ℕ × U)) (last : F)

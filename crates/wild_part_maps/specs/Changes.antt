@@ -1,5 +1,5 @@
 -- How a map from parts changes.
-use Rattle.std.specs.Prelude.{◌≡◌, ℕ, ◌+◌, ◌||◌, List, [], ◌∷◌, length, Some, MatchOption, Bool, slice_set, nat_lt, if◌then◌else◌}
+use Rattle.std.specs.Prelude.{◌≡◌, ℕ, ◌+◌, ◌<◌, ◌^◌, length, Some, IsTrue, MatchOption, slice_set, nat_lt, if◌then◌else◌}
 use Rattle.std.specs.Option.{IfSome}
 use Rattle.std.specs.Map.{set_value}
 use Rattle.wild_part_maps.specs.Parts.{PartValues, kept, has_entry, is_part, number_at}
@@ -28,6 +28,6 @@ pub record IsSum (m r n : PartValues ℕ) : Type 0 where
   pub size : length n.dense ≡ length m.dense
   pub numbers : (q : ℕ) → number_at n q ≡ number_at m q + number_at r q
 
--- both have the same number at each part
-abbrev pub SameNumbers : PartValues ℕ → PartValues ℕ → Type 0
-SameNumbers m n = (q : ℕ) → number_at n q ≡ number_at m q
+-- at each part that has an entry in r the sum of both numbers is below 2 ^ 64
+abbrev pub SumsFit : PartValues ℕ → PartValues ℕ → Type 0
+SumsFit m r = (q : ℕ) → IsTrue (has_entry r q) → number_at m q + number_at r q < 2 ^ 64

@@ -1,12 +1,12 @@
 //! Maps from the parts of output sections.
 
-ghost use Rattle.std.specs.Prelude.{◌≡◌, ℕ, ◌+◌, ◌-◌, ◌<◌, ◌≤◌, ◌^◌, ◌||◌, Bool, false, if◌then◌else◌, None, List, [], ◌∷◌, Some, IsTrue, IfOk, OnOk, OnErr, IsOk, length};
+ghost use Rattle.std.specs.Prelude.{◌≡◌, ℕ, ◌+◌, ◌-◌, ◌<◌, ◌≤◌, ◌^◌, ◌||◌, ◌↔◌, Bool, false, if◌then◌else◌, None, List, [], ◌∷◌, Some, IsTrue, IfOk, OnOk, OnErr, IsOk, length};
 ghost use Rattle.std.specs.Borrow.{Lends, LendsSoOk, sem};
 ghost use Rattle.std.specs.List.{All};
 ghost use Rattle.std.specs.Map.{values_of};
 ghost use Rattle.wild_part_maps.specs.contracts.output_section_part_map.OutputSectionPartMap.{the_row};
 ghost use Rattle.wild_part_maps.specs.Calls.{MapsEntries, ChangesEntries};
-ghost use Rattle.wild_part_maps.specs.Changes.{with_value, Updates, Reserves, AddsDefaults, IsSum, SameNumbers};
+ghost use Rattle.wild_part_maps.specs.Changes.{with_value, Updates, Reserves, AddsDefaults, IsSum, SumsFit};
 ghost use Rattle.wild_part_maps.specs.Parts.{PartValues, RisesFrom, entries, entries_in, has_entry, is_between, kept, value_in, IsValueAt, number_at};
 ghost use Rattle.wild_part_maps.specs.Starts.{Starts};
 
@@ -337,10 +337,23 @@ fn change_entries<T, U, V: Default + Drop, F: FnMut(&mut T, &U) -> V>(
 }
 
 impl OutputSectionPartMap<u64> {
-    /// Adds the other map, part by part. Each sum has to be below 2 ^ 64. Where memory runs out each part has the number
+    /// Whether at each part that has an entry in the other map the sum of both numbers is below 2 ^ 64.
+    pub fn sums_fit(&self, other: &OutputSectionPartMap<u64>) -> bool
+        ensures { IsTrue result ↔ SumsFit self.now other.now }
+    {
+        let mut left = other.iter();
+        while let Some((part, value)) = left.next() {
+            if self.get(part).checked_add(*value).is_none() {
+                return false;
+            }
+        }
+        true
+    }
+
+    /// Adds the other map, part by part. The sums have to fit (`sums_fit`). Where memory runs out each part has the number
     /// that it had, though it may have an entry now.
     pub fn merge(&mut self, rhs: &OutputSectionPartMap<u64>) -> Result<(), NoMemory>
-        requires { (q : ℕ) → number_at self.old q + number_at rhs.now q < 2 ^ 64 }
+        requires { SumsFit self.old rhs.now }
         ensures ok { OnOk result (IsSum self.old rhs.now self.new) }
         ensures parts { OnOk result ((q : ℕ) → has_entry self.new q ≡ (has_entry self.old q || has_entry rhs.now q)) }
         ensures err { OnErr result (AddsDefaults (λ n. n ≡ 0) self.old self.new) }
@@ -351,13 +364,13 @@ impl OutputSectionPartMap<u64> {
     }
 
     /// Adds sizes, part by part, and answers where the ranges of these sizes start: at each part that has an entry in
-    /// `sizes`, what was there before. Each sum has to be below 2 ^ 64. Where memory runs out each part has the number
+    /// `sizes`, what was there before. The sums have to fit (`sums_fit`). Where memory runs out each part has the number
     /// that it had, though it may have an entry now.
     pub fn merge_and_return_start_offsets(
         &mut self,
         sizes: &OutputSectionPartMap<u64>,
     ) -> Result<OutputSectionPartMap<u64>, NoMemory>
-        requires { (q : ℕ) → number_at self.old q + number_at sizes.now q < 2 ^ 64 }
+        requires { SumsFit self.old sizes.now }
         ensures ok { IfOk result (Starts self.old sizes.now self.new) }
         ensures err { OnErr result (AddsDefaults (λ n. n ≡ 0) self.old self.new) }
     {
@@ -381,7 +394,7 @@ impl OutputSectionPartMap<u64> {
 /// Adds each entry of the second map, whose parts have entries in the first.
 fn add_entries(map: &mut OutputSectionPartMap<u64>, sizes: &OutputSectionPartMap<u64>)
     requires parts { (q : ℕ) → IsTrue (has_entry sizes.now q) → IsTrue (has_entry map.old q) }
-    requires fits { (q : ℕ) → number_at map.old q + number_at sizes.now q < 2 ^ 64 }
+    requires fits { SumsFit map.old sizes.now }
     ensures sums { IsSum map.old sizes.now map.new }
     ensures parts { (q : ℕ) → has_entry map.new q ≡ has_entry map.old q }
 {

@@ -6,7 +6,7 @@ use Rattle.wild_part_maps.proofs.output_section_part_map.add_entries.Given as go
 abbrev pub invariant-loop-part : goal.invariant-loop-part
 invariant-loop-part l = record {
   rising : RisesFrom 0 l.left;
-  within : (q : ℕ) → IsTrue (is_some (value_in l.left q)) → IsTrue (has_entry l.map q);
+  listed : (q : ℕ) → IsTrue (is_some (value_in l.left q)) → IsTrue (has_entry l.fn.sizes q);
   numbers : (q : ℕ) → number_at l.map q + unwrap_or (value_in l.left q) 0 ≡ number_at l.fn.map q + number_at l.fn.sizes q;
   size : length l.map.dense ≡ length l.fn.map.dense;
   parts : (q : ℕ) → has_entry l.map q ≡ has_entry l.fn.map q;
