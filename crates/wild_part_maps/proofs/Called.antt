@@ -87,22 +87,21 @@ module _ {F T U V : Type 0} (step : F → MutBor T → Bor U → V → MutBor T 
   pub changes_more : (old new : PartValues T) (fewer more : PartValues V) (done rest : List (ℕ × U)) (e : ℕ × U) (p q r : F) (lent left : MutBor T) (shown : Bor U) (answer : V) → step q lent shown answer left r
       → Updates old e.0 left.now new → Updates fewer e.0 answer more → before e.0 lent.now → shown.now ≡ e.1 → (limit : ℕ) → RisesFrom limit (done ++ e ∷ rest)
       → ChangesEntries step before old fewer p done q → ChangesEntries step before new more p (done ++ e ∷ []) r
-  changes_more old new fewer more [] rest e p q r lent left shown answer called writes puts starts shows limit rising same =
-      (
-        r,
-        record {
-          lent = lent;
-          left = left;
-          shown = shown;
-          answer = answer;
-          starts = starts;
-          leaves = kept_here old new e.0 left.now writes;
-          shows = shows;
-          answers_at = kept_here fewer more e.0 answer puts;
-          called = subst (λ s. step s lent shown answer left r) (sym same) called;
-        },
-        refl,
-      )
+  changes_more old new fewer more [] rest e p q r lent left shown answer called writes puts starts shows limit rising same = (
+    r,
+    record {
+      lent = lent;
+      left = left;
+      shown = shown;
+      answer = answer;
+      starts = starts;
+      leaves = kept_here old new e.0 left.now writes;
+      shows = shows;
+      answers_at = kept_here fewer more e.0 answer puts;
+      called = subst (λ s. step s lent shown answer left r) (sym same) called;
+    },
+    refl,
+  )
   changes_more old new fewer more (d ∷ done) rest e p q r lent left shown answer called writes puts starts shows limit rising calls =
       let low : d.0 < e.0 = omega (arith, below_next (d.0 + 1) done rest e rising.1) in (
         calls.0,

@@ -27,9 +27,9 @@ module _ {T : Type 0} where
   rises_insert limit part v (e ∷ es) here rising = elim (cases_Bool (nat_lt part e.0)) [
     | inl less ↦ (let above : part + 1 ≤ e.0 = grind (arith, nat_tests) in rw less (here, (above, rising.1)))
     | inr more ↦ elim (cases_Bool (part == e.0)) [
-        | inl same ↦ rw (more, same) rising
-        | inr other ↦ (let above : e.0 + 1 ≤ part = grind (arith, nat_tests) in rw (more, other) (rising.0, rises_insert (e.0 + 1) part v es above rising.1))
-      ]
+      | inl same ↦ rw (more, same) rising
+      | inr other ↦ (let above : e.0 + 1 ≤ part = grind (arith, nat_tests) in rw (more, other) (rising.0, rises_insert (e.0 + 1) part v es above rising.1))
+    ]
   ]
 
   -- only the parts count
@@ -62,13 +62,13 @@ module _ {T : Type 0} where
   value_in_filter f [] q = elim (cases_Bool (f q)) [ inl passes ↦ rw passes refl | inr fails ↦ rw fails refl ]
   value_in_filter f (e ∷ es) q = elim (cases_Bool (is_part q e.0)) [
     | inl same ↦ (let here : q ≡ e.0 = grind (arith, nat_tests) in elim (cases_Bool (f e.0)) [
-        | inl passes ↦ (let as_q : f q ≡ true = ap f here ∙ passes in rw (passes, as_q, same) refl)
-        | inr fails ↦ (let as_q : f q ≡ false = ap f here ∙ fails in rw (fails, as_q) (rw as_q at (value_in_filter f es q)))
-      ])
+      | inl passes ↦ (let as_q : f q ≡ true = ap f here ∙ passes in rw (passes, as_q, same) refl)
+      | inr fails ↦ (let as_q : f q ≡ false = ap f here ∙ fails in rw (fails, as_q) (rw as_q at (value_in_filter f es q)))
+    ])
     | inr other ↦ elim (cases_Bool (f e.0)) [
-        | inl passes ↦ rw (passes, other) (value_in_filter f es q)
-        | inr fails ↦ rw (fails, other) (value_in_filter f es q)
-      ]
+      | inl passes ↦ rw (passes, other) (value_in_filter f es q)
+      | inr fails ↦ rw (fails, other) (value_in_filter f es q)
+    ]
   ]
 
   pub rises_numbered : (first : ℕ) (xs : List T) (es : List (ℕ × T)) → RisesFrom (first + length xs) es → RisesFrom first (numbered first xs ++ es)

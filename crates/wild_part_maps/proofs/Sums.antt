@@ -85,7 +85,7 @@ sum_from m n r k adds sum = record {
   numbers = λ q. sum.numbers q ∙ ap (λ x. x + number_at r q) (adds_numbers m n adds q);
 }
 
-value_number : (m : PartValues ℕ) (part v : ℕ) → IsValueAt (λ x. x ≡ 0) m part v → v ≡ number_at m part
+pub value_number : (m : PartValues ℕ) (part v : ℕ) → IsValueAt (λ x. x ≡ 0) m part v → v ≡ number_at m part
 value_number m part v is = go (kept m part) is
   where
     go : (o : Option ℕ) → MatchOption o (v ≡ 0) (λ x. v ≡ x) → v ≡ unwrap_or o 0

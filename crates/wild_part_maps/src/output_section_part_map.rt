@@ -42,10 +42,7 @@ impl<T> Model for OutputSectionPartMap<T> {
 impl<T: Default> OutputSectionPartMap<T> {
     /// A map with so many dense parts, fewer than 2 ^ 32, each with a default value, and no others. Fails where memory
     /// runs out.
-    pub fn with_dense_size(
-        alloc: Global,
-        size: usize,
-    ) -> Result<OutputSectionPartMap<T>, NoMemory>
+    pub fn with_dense_size(alloc: Global, size: usize) -> Result<OutputSectionPartMap<T>, NoMemory>
         requires { size < 2 ^ 32 }
         ensures size { IfOk result (λ map. length map.dense ≡ size) }
         ensures defaults { IfOk result (λ map. All T.is_default map.dense) }

@@ -6,15 +6,15 @@ use Rattle.wild_part_maps.proofs.Reserved.{updates_has}
 use Rattle.wild_part_maps.proofs.Sums.{first_has, listed_rest, rises_rest, next_fits, add_step}
 use Rattle.wild_part_maps.proofs.output_section_part_map.add_entries.Goals as goal
 
-pub increment-requires-entry : goal.increment-requires-entry
-increment-requires-entry c =
+pub increment-requires-clause-entry : goal.increment-requires-clause-entry
+increment-requires-clause-entry c =
     let now = c.loop-part.invariant in
     let next = c.in-Some.ensures.steps in
     let has : IsTrue (has_entry c.loop-part.map c.in-Some.part) = now.parts _ ∙ c.requires.parts _ (now.listed _ (first_has _ _ _ next)) in
     search rules
 
-pub increment-requires-fits : goal.increment-requires-fits
-increment-requires-fits c =
+pub increment-requires-clause-fits : goal.increment-requires-clause-fits
+increment-requires-clause-fits c =
     let now = c.loop-part.invariant in
     let next = c.in-Some.ensures.steps in
     let fits : number_at c.loop-part.map c.in-Some.part + c.in-Some.value.now < 2 ^ 64 = next_fits _ _ _ next c.loop-part.map c.loop-part.map (λ q. number_at c.args.map.now q + number_at c.args.sizes.now q) now.numbers (2 ^ 64) (c.requires.fits _ (now.listed _ (first_has _ _ _ next))) in

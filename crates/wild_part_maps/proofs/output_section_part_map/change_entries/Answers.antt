@@ -36,7 +36,7 @@ loop-part-preserved g c =
         _,
         moved_on _ _ _ _ _ calls.1 next,
         still_same _ _ _ _ _ _ lent.0 calls.2,
-        changes_more (goal.F-step g) _ _ _ _ _ calls.0 c.next.new.self (c.in-Some.part, c.in-Some.value.now) _ _ _ _ _ _ _ c.cb-answer.ensures lent.0 puts (sym (calls.2 _ (not_done 0 calls.0 c.next.new.self (c.in-Some.part, c.in-Some.value.now) rising)) ∙ lent.1) refl 0 rising calls.3,
+        changes_more (goal.F-step g) _ _ _ _ _ calls.0 c.next.new.self (c.in-Some.part, c.in-Some.value.now) _ _ _ _ _ _ _ c.cb-answer.ensures lent.0 puts (sym (calls.2 _ (not_done 0 calls.0 c.next.new.self (c.in-Some.part, c.in-Some.value.now) rising)) ∙ lent.1) (search rules) 0 rising calls.3,
       );
     }
 
