@@ -1,5 +1,7 @@
 //! Maps from parts on a small platform, where section 3 has the parts from 24 to 45, and custom sections begin at 90.
 
+ghost use Rattle.std.specs.Prelude.{◌≤◌};
+
 use crate::*;
 use std::alloc::Global;
 use std::test::Fail;
@@ -36,22 +38,28 @@ fn values_of_parts(rt: HostRuntime) -> Result<(), Fail> {
     Ok(())
 }
 
+/// The first part from one number on and before another that has an entry, and how many have one.
+fn listed(sizes: &OutputSectionPartMap<u64>, start: u32, end: u32) -> Option<(u32, usize)>
+    requires { start ≤ end }
+{
+    let (first, _) = sizes.in_range(PartId(start)..PartId(end)).next()?;
+    let count = sizes.in_range(PartId(start)..PartId(end)).count();
+    Some((first.as_u32(), count))
+}
+
 #[test]
 fn ranges(rt: HostRuntime) -> Result<(), Fail> {
     let mut sizes = two_sizes(rt.alloc())?;
     *sizes.get_mut(PartId(175))? = 9;
     *sizes.get_mut(PartId(91))? = 7;
-    for (case, range, first, count, sum) in [
-        ("a section", PartId(24)..PartId(46), Some(24), 22, 37),
-        ("further parts", PartId(90)..PartId(112), Some(91), 1, 7),
-        ("both kinds", PartId(45)..PartId(176), Some(45), 47, 21),
-        ("no part", PartId(45)..PartId(45), None, 0, 0),
-    ] {
-        let part = sizes.in_range(range.clone()).next();
-        assert_eq!(rt; part.map(|(part, _)| part.as_u32()), first, "{case}");
-        assert_eq!(rt; sizes.in_range(range.clone()).count(), count, "{case}");
-        assert!(rt; sizes.values_in_range(range).all(|value| *value <= sum));
-    }
+    assert_eq!(rt; listed(&sizes, 24, 46), Some((24, 22)), "a section");
+    assert_eq!(rt; listed(&sizes, 90, 112), Some((91, 1)), "further parts");
+    assert_eq!(rt; listed(&sizes, 45, 176), Some((45, 47)), "both kinds");
+    assert_eq!(rt; listed(&sizes, 45, 45), None, "no part");
+    let mut values = sizes.values_in_range(PartId(45)..PartId(176));
+    assert_eq!(rt; values.next().copied(), Some(5));
+    assert!(rt; values.any(|value| *value == 9));
+    assert_eq!(rt; values.next().copied(), None);
     Ok(())
 }
 
