@@ -1,6 +1,6 @@
 -- What the iterators of a map begin with.
-use Rattle.std.proofs.Common.{◌≡◌, ℕ, ◌+◌, ◌≤◌, List, ◌++◌, length, Some, None, refl, sym, ap, ◌∙◌, subst, arith, true, min, nat_lt}
-use Rattle.std.specs.Prelude.{slice_range, slice_get, if◌then◌else◌}
+use Rattle.std.proofs.Common.{◌≡◌, ℕ, ◌+◌, List, ◌++◌, length, None, sym, arith, min}
+use Rattle.std.specs.Prelude.{slice_range, if◌then◌else◌}
 use Rattle.std.specs.List.{filter}
 use Rattle.wild_ids.specs.Entries.{numbered}
 use Rattle.wild_part_maps.specs.Parts.{PartValues, RisesFrom, entries, entries_in, is_between, kept, value_in}

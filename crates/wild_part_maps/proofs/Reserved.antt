@@ -1,6 +1,6 @@
 -- What reserving entries does.
 use Rattle.std.proofs.Common.{◌≡◌, ℕ, zero, suc, ◌<◌, List, [], ◌∷◌, length, nat_lt, Option, Some, None, MatchOption, refl, sym, subst, ap, ◌∙◌, inl, inr, arith, Bool, true, false}
-use Rattle.std.specs.Prelude.{is_some, slice_get, ◌||◌, IsTrue, if◌then◌else◌}
+use Rattle.std.specs.Prelude.{is_some, slice_get, ◌||◌, IsTrue}
 use Rattle.std.specs.Option.{IfSome}
 use Rattle.std.proofs.lemmas.Bool.{cases_Bool}
 use Rattle.std.proofs.lemmas.Bool.Decides.{nat_tests}

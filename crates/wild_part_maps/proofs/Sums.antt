@@ -1,5 +1,5 @@
 -- Sums, part by part.
-use Rattle.std.proofs.Common.{◌≡◌, ℕ, ◌+◌, ◌<◌, List, [], ◌∷◌, Option, Some, None, MatchOption, refl, sym, subst, ap, ◌∙◌, inl, inr, arith, Bool, true, false, add-zero}
+use Rattle.std.proofs.Common.{◌≡◌, ℕ, ◌+◌, ◌<◌, List, [], ◌∷◌, Option, Some, None, MatchOption, refl, subst, ap, ◌∙◌, inl, inr, arith, true, false, add-zero}
 use Rattle.std.specs.Prelude.{is_some, unwrap_or, IsTrue, IfOk, Result, Ok, Err, if◌then◌else◌}
 use Rattle.std.specs.Option.{IfSome}
 use Rattle.std.specs.Borrow.{Bor}
@@ -8,7 +8,7 @@ use Rattle.std.proofs.lemmas.Bool.Decides.{nat_tests}
 use Rattle.wild_part_maps.specs.Calls.{MapsEntries}
 use Rattle.wild_part_maps.specs.Changes.{Updates, AddsDefaults, IsSum}
 use Rattle.wild_part_maps.specs.Parts.{PartValues, entries, has_entry, kept, is_part, number_at, value_in, IsValueAt, RisesFrom}
-use Rattle.wild_part_maps.proofs.Reserved.{has_listed, updates_has}
+use Rattle.wild_part_maps.proofs.Reserved.{has_listed}
 use Rattle.wild_part_maps.proofs.Rising.{none_below, rises_lower}
 
 module _ (left rest : List (ℕ × ℕ)) (e : ℕ × ℕ) (next : left ≡ e ∷ rest) where

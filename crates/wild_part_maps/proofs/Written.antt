@@ -1,5 +1,5 @@
 -- What a write to the sparse part does to all values.
-use Rattle.std.proofs.Common.{◌≡◌, ℕ, ◌+◌, ◌-◌, ◌<◌, ◌≤◌, List, length, Option, Some, None, IsSome, refl, sym, subst, MatchOption, ◌∙◌, ap, inl, inr, arith, rules, Bool, true, false, nat_lt, cond}
+use Rattle.std.proofs.Common.{◌≡◌, ℕ, ◌<◌, ◌≤◌, List, length, Option, Some, None, IsSome, refl, sym, subst, MatchOption, ◌∙◌, ap, inl, inr, arith, true, false, nat_lt}
 use Rattle.std.specs.Prelude.{is_some, slice_get, slice_set, IsTrue, [], ◌∷◌, zero, suc, if◌then◌else◌}
 use Rattle.std.specs.Ordering.{nat_cmp, eq_by_cmp}
 use Rattle.std.specs.Cmp.{eq_by_cmp_equiv, nat_cmp_total}
@@ -7,7 +7,6 @@ use Rattle.std.proofs.lemmas.Map.{lookup-set_value}
 use Rattle.std.proofs.Math.ListN.{length-set}
 use Rattle.std.specs.Map.{lookup, set_value}
 use Rattle.std.specs.BTreeMap.{is_at}
-use Rattle.std.proofs.lemmas.Grind.{common_steps}
 use Rattle.std.proofs.lemmas.Bool.{cases_Bool, cases_eq}
 use Rattle.std.proofs.lemmas.Bool.Decides.{nat_tests}
 use Rattle.wild_part_maps.specs.Parts.{PartValues, kept, has_entry, IsValueAt}

@@ -1,7 +1,7 @@
-use Rattle.std.proofs.Common.{of_calls, ◌≡◌, ◌∙◌, Some, refl, rules, sym, ◌++◌, ◌∷◌}
+use Rattle.std.proofs.Common.{of_calls, ◌∙◌, rules, sym, ◌++◌, ◌∷◌}
 use Rattle.std.specs.Prelude.{IsTrue}
 use Rattle.wild_part_maps.specs.Changes.{Updates}
-use Rattle.wild_part_maps.specs.Parts.{has_entry, kept, RisesFrom}
+use Rattle.wild_part_maps.specs.Parts.{has_entry, RisesFrom}
 use Rattle.wild_part_maps.proofs.Reserved.{updates_has}
 use Rattle.wild_part_maps.proofs.Called.{changes_all, changes_more, lent_at, moved_on, next_has, not_done, still_same, with_next}
 use Rattle.wild_part_maps.proofs.output_section_part_map.change_entries.Goals as goal

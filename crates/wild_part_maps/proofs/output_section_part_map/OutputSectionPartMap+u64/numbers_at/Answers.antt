@@ -1,4 +1,4 @@
-use Rattle.std.proofs.Common.{of_calls, refl, rules}
+use Rattle.std.proofs.Common.{of_calls, rules}
 use Rattle.wild_part_maps.proofs.Sums.{numbers_of}
 use Rattle.wild_part_maps.proofs.output_section_part_map.OutputSectionPartMap+u64.numbers_at.Goals as goal
 

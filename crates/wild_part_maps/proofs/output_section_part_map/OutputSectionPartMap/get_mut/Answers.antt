@@ -1,4 +1,4 @@
-use Rattle.std.proofs.Common.{refl, rules}
+use Rattle.std.proofs.Common.{refl}
 use Rattle.wild_part_maps.proofs.Written.{with_value-updates, reserved_updates, reserved_has, reserved_value}
 use Rattle.wild_part_maps.proofs.output_section_part_map.OutputSectionPartMap.get_mut.Goals as goal
 

@@ -1,5 +1,4 @@
-use Rattle.std.proofs.Common.{◌≡◌, ◌∙◌, length, min, rules, sym, ap}
-use Rattle.wild_part_maps.specs.Parts.{RisesFrom, entries_in, value_in}
+use Rattle.std.proofs.Common.{◌≡◌, ◌∙◌, length, sym, ap}
 use Rattle.wild_part_maps.proofs.Lists.{value_between, between_rise, between_listed}
 use Rattle.wild_part_maps.proofs.output_section_part_map.OutputSectionPartMap.in_range.Goals as goal
 

@@ -1,4 +1,3 @@
-use Rattle.std.proofs.Common.{refl, rules}
 use Rattle.wild_part_maps.proofs.Written.{with_value-updates, reserved_updates, reserved_has}
 use Rattle.wild_part_maps.proofs.output_section_part_map.OutputSectionPartMap.take.Goals as goal
 
