@@ -214,7 +214,6 @@ impl OutputSectionPartMap<u64> {
 
 impl<T: Default + Drop> OutputSectionPartMap<T> {
     /// Keeps a default value for each part that has an entry in the other map, and none here.
-    #[tactic(auto, using(crate::proofs::Reserved::adds_more))]
     fn reserve_entries<U>(&mut self, other: &OutputSectionPartMap<U>) -> Result<(), NoMemory>
         ensures adds { AddsDefaults T.is_default self.old self.new }
         ensures parts { OnOk result ((q : ℕ) → has_entry self.new q ≡ (has_entry self.old q || has_entry other.now q)) }
