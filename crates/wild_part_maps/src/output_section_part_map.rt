@@ -118,6 +118,7 @@ impl<T> OutputSectionPartMap<T> {
         ensures value { result ≡ entries_in self.now range.start range.end }
         ensures rising { RisesFrom range.start result }
         ensures listed { (q : ℕ) → value_in result q ≡ (if is_between range.start range.end q then kept self.now q else None) }
+        ensures fits { length result < 2 ^ 64 }
     {
         let len = self.parts.len();
         let first = range.start.as_usize().min(len);
@@ -130,9 +131,11 @@ impl<T> OutputSectionPartMap<T> {
     }
 
     /// The values of these entries, in the same order.
+    #[tactic(auto, using(crate::proofs::Lists::values_fit))]
     pub fn values_in_range(&self, range: Range<PartId>) -> RangeValues<'_, T>
         requires { range.start ≤ range.end }
-        ensures { result ≡ values_of (entries_in self.now range.start range.end) }
+        ensures value { result ≡ values_of (entries_in self.now range.start range.end) }
+        ensures fits { length result < 2 ^ 64 }
     {
         RangeValues {
             entries: self.in_range(range),
@@ -144,6 +147,7 @@ impl<T> OutputSectionPartMap<T> {
         ensures value { result ≡ entries self.now }
         ensures rising { RisesFrom 0 result }
         ensures listed { (q : ℕ) → value_in result q ≡ kept self.now q }
+        ensures fits { length result < 2 ^ 64 }
     {
         RangeIterator {
             next: 0,
