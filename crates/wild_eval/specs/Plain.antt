@@ -9,6 +9,7 @@ use Rattle.wild_expression_tree.specs.declared.operator.Connective.{Connective}
 use Rattle.wild_expression_tree.specs.declared.operator.Division.{Division}
 use Rattle.wild_expression_tree.specs.declared.operator.Question.{Question}
 use Rattle.wild_expression_tree.specs.declared.operator.Unary.{Unary}
+use Rattle.wild_names.specs.declared.segment_name.SegmentName.{SegmentName}
 use Rattle.wild_value_spec.specs.declared.value.Point.{Point}
 use Rattle.wild_value_spec.specs.declared.value.Value.{Value}
 use Rattle.wild_value_spec.specs.declared.value.Whole.{Whole}
@@ -85,6 +86,14 @@ start_named v = spec.start_named (scope v) v.statement (known v)
 abbrev pub load_named : Evaluator → Name → Result Value Fault
 load_named v = spec.load_named (scope v) v.statement (known v)
 
+-- ORIGIN
+abbrev pub region_origin : Evaluator → Name → Result Value Fault
+region_origin v = spec.region_origin (scope v) v.statement (known v)
+
+-- LENGTH
+abbrev pub region_length : Evaluator → Name → Result Value Fault
+region_length v = spec.region_length (scope v) v.statement (known v)
+
 -- DEFINED
 abbrev pub defined_value : Evaluator → Name → Value
 defined_value v = spec.defined_value (scope v) v.statement (known v)
@@ -150,6 +159,10 @@ subject v h = spec.subject (scope v) v.statement (known v) (value v h)
 -- ALIGN
 abbrev pub align_value : Evaluator → ℕ → List Name → Expression → Option Expression → Point → Result Value Fault
 align_value v h = spec.align_value (scope v) v.statement (known v) (value v h)
+
+-- SEGMENT_START
+abbrev pub segment_value : Evaluator → ℕ → List Name → SegmentName → Expression → Point → Result Value Fault
+segment_value v h = spec.segment_value (scope v) v.statement (known v) (value v h)
 
 -- what a definition is worth, with its name on the path
 abbrev pub whole : Evaluator → ℕ → List Name → Name → Definition → Result Whole Fault

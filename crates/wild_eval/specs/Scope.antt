@@ -1,4 +1,4 @@
--- What a script and its table say of sections and symbols, and the symbols that are being evaluated.
+-- What a script, its table and the options say to an expression, and the symbols that are being evaluated.
 use Rattle.std.specs.Prelude.{List, [], ◌∷◌, Option, Some, None, slice_get}
 use Rattle.std.specs.Option.{unwrap_or}
 use denote.Ref.{Bor}
@@ -9,7 +9,7 @@ use Rattle.wild_eval.specs.declared.definition.SymbolEntry.{SymbolEntry}
 use Rattle.wild_eval.specs.declared.scope.Scope.{Scope}
 use Rattle.wild_eval.specs.declared.scope.Path.{Path}
 use Rattle.wild_eval.specs.declared.scope.Path.TheVariants.{Start, Through'}
-use Rattle.wild_value_spec.specs.Scope.{Name, OfRow, OfScript, line_of}
+use Rattle.wild_value_spec.specs.Scope.{Name, OfRow, OfScript, line_of, region_at, asked_start}
 use Rattle.wild_value_spec.specs.Scope as meaning
 
 -- a definition without how it is kept
@@ -27,7 +27,7 @@ abbrev pub or_empty : Option (Bor Name) → Name
 or_empty (Some name) = name.now
 or_empty None = []
 
--- sections by their index, and symbols by the index of their name
+-- sections by their index, and symbols and regions by the index of their name
 abbrev pub scope_of : Scope → meaning.Scope
 scope_of scope = record {
   section_name = λ s. or_empty (slice_get scope.sections.now s);
@@ -36,6 +36,9 @@ scope_of scope = record {
   symbol = λ x. number_of x scope.symbols.now;
   definitions = shown_definitions scope.entries.now;
   line = λ i. line_of scope.script.now i;
+  region = λ x. region_at scope.regions.now (number_of x scope.region_numbers.now);
+  segment_start = λ x. asked_start scope.segment_starts x;
+  header_size = scope.header_size;
 }
 
 -- the names on a path, the last one first

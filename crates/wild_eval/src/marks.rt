@@ -92,6 +92,19 @@ pub fn over(number: u64, part: Value) -> Value
     }
 }
 
+/// A node over one part with its number, which becomes an address, too.
+pub fn addressed_over(part: Value) -> Value
+    requires { part.height < spec.max_height }
+    ensures { result ≡ spec.addressed_over part }
+{
+    Value {
+        number: part.number,
+        relative: part.relative,
+        absolute: true,
+        height: part.height + 1,
+    }
+}
+
 /// A node over two parts, with the marks of both.
 pub fn over_both(number: u64, left: Value, right: Value) -> Value
     requires left_height { left.height < spec.max_height }

@@ -246,6 +246,10 @@ fn ask(
         symbols: &number_names(alloc, &symbols)?,
         entries: &entries,
         script: b"a\nb\n(",
+        region_numbers: &number_names(alloc, &[])?,
+        regions: &[],
+        segment_starts: [None; 3],
+        header_size: 0,
     };
     let evaluator = Evaluator {
         alloc,

@@ -87,13 +87,35 @@ impl Evaluator<'_> {
         unmarked(truth(self.scope.definition(name).is_some()))
     }
 
-    pub(crate) fn unsupported(&self) -> Result<Value, Fault>
-        ensures value { result ≡ Err (fault.Unsupported self.now.statement) }
+    fn unknown_region(&self, name: &Name) -> Result<Value, Fault>
+        ensures value { Gives result (Err (fault.UnknownRegion name.now)) }
         ensures height { IfOk result (λ v. v.height ≤ 1) }
     {
-        Err(Fault::Unsupported {
-            index: self.statement,
+        Err(Fault::UnknownRegion {
+            name: self.copied(name)?,
         })
+    }
+
+    #[tactic(auto, unfolding(wild_value_spec::specs::Value::region_origin))]
+    fn region_origin(&self, name: &Name) -> Result<Value, Fault>
+        ensures value { Gives result (spec.region_origin self.now name.now) }
+        ensures height { IfOk result (λ v. v.height ≤ 1) }
+    {
+        match self.scope.region(name) {
+            Some(region) => Ok(absolutely(region.origin)),
+            None => self.unknown_region(name),
+        }
+    }
+
+    #[tactic(auto, unfolding(wild_value_spec::specs::Value::region_length))]
+    fn region_length(&self, name: &Name) -> Result<Value, Fault>
+        ensures value { Gives result (spec.region_length self.now name.now) }
+        ensures height { IfOk result (λ v. v.height ≤ 1) }
+    {
+        match self.scope.region(name) {
+            Some(region) => Ok(unmarked(region.length)),
+            None => self.unknown_region(name),
+        }
     }
 
     // What is asked of a name.
@@ -106,7 +128,8 @@ impl Evaluator<'_> {
             Question::Alignof => Ok(self.alignment(name)),
             Question::Addr => self.start_named(name),
             Question::Loadaddr => self.load_named(name),
-            Question::Origin | Question::Length => self.unsupported(),
+            Question::Origin => self.region_origin(name),
+            Question::Length => self.region_length(name),
             Question::Defined => Ok(self.defined_value(name)),
         }
     }

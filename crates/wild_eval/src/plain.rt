@@ -13,10 +13,10 @@ ghost use Rattle.wild_value_spec.specs.Value as value;
 use crate::addresses::Addresses;
 use crate::arithmetic::{apply, change, decides, divide, truth_of};
 use crate::definition::Definition;
-use crate::marks::{over, over_both, unmarked};
+use crate::marks::{absolutely, addressed_over, over, over_both, unmarked};
 use crate::scope::{Path, Scope};
 use std::alloc::Global;
-use wild_base::{Fault, Name};
+use wild_base::{Fault, Name, SegmentName};
 use wild_expression_tree::{
     Arithmetic, AssertCommand, Comparison, Connective, Division, Expression, Shape, Unary,
 };
@@ -116,7 +116,8 @@ impl Evaluator<'_> {
             Shape::Ternary(c, a, b) => self.ternary_value(levels, path, c, a, b, point),
             Shape::Align(alignment, held) => self.align_value(levels, path, alignment, held, point),
             Shape::Assert(command) => self.assert_value(levels, path, command, point),
-            Shape::SizeofHeaders | Shape::SegmentStart(_, _) => self.unsupported(),
+            Shape::SizeofHeaders => Ok(unmarked(self.scope.header_size)),
+            Shape::SegmentStart(name, a) => self.segment_value(levels, path, name, a, point),
         }
     }
 
@@ -292,6 +293,30 @@ impl Evaluator<'_> {
         match held {
             Some(expression) => self.value(levels, path, expression, point),
             None => self.counter_number(point),
+        }
+    }
+
+    // The start of a segment: the one that is asked for, else a value, as an address.
+    #[cycle(evaluation)]
+    #[tactic(auto, unfolding(wild_value_spec::specs::Value::segment_value))]
+    fn segment_value(
+        &self,
+        levels: usize,
+        path: &Path<'_>,
+        segment: SegmentName,
+        default: &Expression,
+        point: Point,
+    ) -> Result<Value, Fault>
+        requires { levels < max_height }
+        ensures value { Gives result (spec.segment_value self.now levels (path_of path.now) segment default.now point) }
+        ensures height { IfOk result (λ v. v.height ≤ levels + 1) }
+    {
+        match self.scope.segment_start(segment) {
+            Some(start) => Ok(absolutely(start)),
+            None => {
+                let value = self.value(levels, path, default, point)?;
+                Ok(addressed_over(value))
+            }
         }
     }
 

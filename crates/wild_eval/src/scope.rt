@@ -1,16 +1,18 @@
-//! What a script and its table say of sections and symbols, and the symbols that are being evaluated.
+//! What a script, its table and the options say to an expression, and the symbols that are being evaluated.
 
 ghost use Rattle.std.specs.Prelude.{◌≡◌, slice_get};
 ghost use Rattle.std.specs.Option.{option_map};
 ghost use Rattle.wild_eval.specs.Scope.{path_of, scope_of, shown_definition, shown_definitions};
-ghost use Rattle.wild_value_spec.specs.Scope.{definition_of, line_of};
+ghost use Rattle.wild_value_spec.specs.Scope.{asked_start, definition_of, line_of};
 ghost use Rattle.wild_value_spec.specs.Value.{is_on};
 
 use crate::definition::{Definition, SymbolEntry};
-use wild_base::{Alignment, Name};
+use wild_base::{Alignment, Name, SegmentName};
 use wild_numbering::Numbering;
+use wild_value_spec::Region;
 
-/// What a script and its table say of sections and symbols. Sections are numbered from 0.
+/// What a script and its table say of sections, symbols and memory regions, and what is asked for beside them. Sections are
+/// numbered from 0.
 #[derive(Clone, Copy)]
 pub struct Scope<'a> {
     /// The names of the sections, in text order.
@@ -25,6 +27,14 @@ pub struct Scope<'a> {
     pub entries: &'a [SymbolEntry<'a>],
     /// The bytes of the script.
     pub script: &'a [u8],
+    /// The names of the memory regions, to find the number of a region.
+    pub region_numbers: &'a Numbering,
+    /// The regions by their numbers.
+    pub regions: &'a [Region],
+    /// The starts that are asked for of the segments of text, data and bss, in this order.
+    pub segment_starts: [Option<u64>; 3],
+    /// The size of the headers of the output, in bytes.
+    pub header_size: u64,
 }
 
 /// The symbols that are being evaluated, the last one first.
@@ -72,6 +82,28 @@ impl<'a> Scope<'a> {
         match self.symbols.get(name) {
             Some(number) => self.definition_at(number),
             None => None,
+        }
+    }
+
+    /// The memory region of this name.
+    pub(crate) fn region(&self, name: &Name) -> Option<Region>
+        ensures { result ≡ (scope_of self.now).region name.now }
+    {
+        match self.region_numbers.get(name) {
+            Some(number) => self.regions.get(number).copied(),
+            None => None,
+        }
+    }
+
+    /// The start that is asked for of a segment.
+    pub(crate) fn segment_start(&self, segment: SegmentName) -> Option<u64>
+        ensures { result ≡ asked_start self.now.segment_starts segment }
+    {
+        match segment {
+            SegmentName::Text => self.segment_starts[0],
+            SegmentName::Data => self.segment_starts[1],
+            SegmentName::Bss => self.segment_starts[2],
+            SegmentName::Unknown => None,
         }
     }
 

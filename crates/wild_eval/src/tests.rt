@@ -220,6 +220,10 @@ fn read(alloc: Global, sample: Sample, point: Point) -> Result<Result<u64, u32>,
         symbols: &numbers,
         entries: &[],
         script: b"",
+        region_numbers: &numbers,
+        regions: &[],
+        segment_starts: [None; 3],
+        header_size: 0,
     };
     let evaluator = Evaluator {
         alloc,

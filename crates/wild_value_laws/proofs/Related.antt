@@ -1,9 +1,9 @@
 -- A relation that goes on through steps and holds of the leaves holds of each kind of node, and so of values.
 use Rattle.std.proofs.Common.{◌≡◌, ℕ, zero, suc, Bool, true, false, ◌^◌, not, ◌||◌, ◌==◌, cond, List, ◌∷◌, Option, Some, None, Result, Ok, Err, refl, subst}
 use Rattle.wild_names.specs.declared.fault.Fault.{Fault}
-use Rattle.wild_names.specs.declared.fault.Fault.TheVariants.{AlignZero, AssertFailed, DeepValue, SymbolCycle, Unsupported}
+use Rattle.wild_names.specs.declared.fault.Fault.TheVariants.{AlignZero, AssertFailed, DeepValue, SymbolCycle, UnknownRegion}
 use Rattle.wild_expression_tree.specs.declared.tree.Expression.{Expression}
-use Rattle.wild_expression_tree.specs.Shape.{Shape, Number, LocationCounter, Symbol, Named, Ternary, Align, Assert, shape}
+use Rattle.wild_expression_tree.specs.Shape.{Shape, Number, LocationCounter, SizeofHeaders, Symbol, Named, Ternary, Align, SegmentStart, Assert, shape}
 use Rattle.wild_expression_tree.specs.declared.operator.Arithmetic.{Arithmetic}
 use Rattle.wild_expression_tree.specs.declared.operator.Comparison.{Comparison}
 use Rattle.wild_expression_tree.specs.declared.operator.Connective.{Connective}
@@ -11,6 +11,8 @@ use Rattle.wild_expression_tree.specs.declared.operator.Division.{Division}
 use Rattle.wild_expression_tree.specs.declared.operator.Question.{Question}
 use Rattle.wild_expression_tree.specs.declared.operator.Question.TheVariants as question
 use Rattle.wild_expression_tree.specs.declared.operator.Unary.{Unary}
+use Rattle.wild_names.specs.declared.segment_name.SegmentName.{SegmentName}
+use Rattle.wild_value_spec.specs.declared.region.Region.{Region}
 use Rattle.wild_value_spec.specs.declared.value.DotSource.{DotSource}
 use Rattle.wild_value_spec.specs.declared.value.DotSource.TheVariants.{OfPlace, OfLoad, Zero, OfEnd}
 use Rattle.wild_value_spec.specs.declared.value.Point.{Point}
@@ -29,7 +31,7 @@ Evaluator = List Name → Expression → Point → Result Value Fault
 
 -- a scope agrees with itself
 pub itself : (scope : Scope) → Agree scope scope
-itself scope = record { section_name = λ s. refl; «section» = λ name. refl; alignment = λ s. refl; line = λ place. refl; defined = λ name. refl }
+itself scope = record { section_name = λ s. refl; «section» = λ name. refl; alignment = λ s. refl; line = λ place. refl; region = λ name. refl; segment_start = λ segment. refl; header_size = refl; defined = λ name. refl }
 
 module _ (R : Relation) (passes : Passes R) where
   open passes use {same, on}
@@ -107,14 +109,19 @@ module _ (R : Relation) (passes : Passes R) where
     load_in name None = same _
     load_in name (Some s) = on (load s) (λ n. same _)
 
+    region_in : (of : Region → Value) (name : Name) (o : Option Region) → Each (λ i j k. v.region_in i j k of name o)
+    region_in of name None = same _
+    region_in of name (Some r) = same _
+
     named_value : (q : Question) (name : Name) → Each (λ i j k. v.named_value i j k q name)
-    unfolding v.size v.alignment v.start_named v.load_named v.defined_value
+    unfolding v.size v.alignment v.start_named v.load_named v.region_origin v.region_length v.defined_value
     named_value question.Sizeof name = at_equal (scopes.«section» name) size_in
     named_value question.Alignof name = at_equal (scopes.«section» name) alignment_in
     named_value question.Addr name = at_equal (scopes.«section» name) (start_in name)
     named_value question.Loadaddr name = at_equal (scopes.«section» name) (load_in name)
     named_value question.Defined name = at_equal (scopes.defined name) (λ d. same (Ok (unmarked (truth d))))
-    named_value q name = fails Unsupported
+    named_value question.Origin name = at_equal (scopes.region name) (region_in _ name)
+    named_value question.Length name = at_equal (scopes.region name) (region_in _ name)
 
     symbol_value_in : (name : Name) (w : Whole) (s t : Option ℕ) → Each (λ i j k. v.symbol_value_in i j k name w s t)
     unfolding v.from_start
@@ -180,6 +187,14 @@ module _ (R : Relation) (passes : Passes R) where
         unfolding v.align_value
         align_value n x p = on (parts n p) (λ align. choose (align.number == 0) (fails AlignZero) (on (subject x p) (λ m. same _)))
 
+        started_by : (o : Option ℕ) (x : Expression) (p : Point) → EachNode (λ i j k f path. v.started_by i j k f path o x p)
+        started_by None x p = on (parts x p) (λ n. same _)
+        started_by (Some n) x p = same _
+
+        segment_value : (segment : SegmentName) (x : Expression) (p : Point) → EachNode (λ i j k f path. v.segment_value i j k f path segment x p)
+        unfolding v.segment_value
+        segment_value segment x p = at_equal (scopes.segment_start segment) (λ o. started_by o x p)
+
         assert_value : (c : Expression) (message : Name) (at : ℕ) (p : Point) → EachNode (λ i j k f path. v.assert_value i j k f path c message at p)
         unfolding v.assert_value
         assert_value c message at p = on (parts c p) (λ n. choose (n.number == 0) (at_equal (scopes.line at) (λ m. same (Err (AssertFailed m message)))) (same (Ok (over n.number n))))
@@ -197,7 +212,8 @@ module _ (R : Relation) (passes : Passes R) where
         node_related symbols p (Ternary c x y) = ternary_value c x y p
         node_related symbols p (Align n x) = align_value n x p
         node_related symbols p (Assert c message at) = assert_value c message at p
-        node_related symbols p s = fails Unsupported
+        node_related symbols p SizeofHeaders = at_equal scopes.header_size (λ n. same (Ok (unmarked n)))
+        node_related symbols p (SegmentStart segment x) = segment_value segment x p
 
     -- ---- values, where both sides have the same definitions
 

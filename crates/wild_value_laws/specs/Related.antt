@@ -3,6 +3,7 @@ use Rattle.std.specs.Prelude.{◌≡◌, ℕ, List, Some, Result, Err}
 use Rattle.std.specs.Option.{is_some}
 use Rattle.wild_names.specs.declared.fault.Fault.{Fault}
 use Rattle.wild_names.specs.declared.fault.Fault.TheVariants.{NotLaidOut}
+use Rattle.wild_names.specs.declared.segment_name.SegmentName.{SegmentName}
 use Rattle.wild_value_spec.specs.declared.value.Value.{Value}
 use Rattle.wild_value_spec.specs.Answer.{◌>>=◌, or_fault}
 use Rattle.wild_value_spec.specs.Known.{Known, Asked}
@@ -24,12 +25,15 @@ pub record Side : Type 0 where
   pub statement : ℕ
   pub known : Known
 
--- two scopes say the same of sections, of lines, and of whether a name has a definition
+-- two scopes say the same of sections, lines, regions, segments and headers, and of whether a name has a definition
 pub record Agree (a b : Scope) : Type 0 where
   pub section_name : (s : ℕ) → a.section_name s ≡ b.section_name s
   pub «section» : (name : Name) → a.«section» name ≡ b.«section» name
   pub alignment : (s : ℕ) → a.alignment s ≡ b.alignment s
   pub line : (at : ℕ) → a.line at ≡ b.line at
+  pub region : (name : Name) → a.region name ≡ b.region name
+  pub segment_start : (segment : SegmentName) → a.segment_start segment ≡ b.segment_start segment
+  pub header_size : a.header_size ≡ b.header_size
   pub defined : (name : Name) → is_some (definition_of a name) ≡ is_some (definition_of b name)
 
 -- the relation holds of what is answered without a part of an expression

@@ -22,6 +22,11 @@ abbrev pub zero_divisor : Division → ConstFault
 zero_divisor division.Divide = DivisionByZero
 zero_divisor division.Modulo = ModuloByZero
 
+-- its number; what has none is refused before
+abbrev pub number_in : Constant → ℕ
+number_in (Ok n) = n
+number_in (Err f) = 0
+
 -- ---- nodes over what their parts are, of which only those count that the word asks for
 
 -- both sides, the left one first

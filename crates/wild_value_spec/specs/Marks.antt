@@ -34,6 +34,10 @@ relatively_over n height = record { number = n; relative = true; absolute = fals
 abbrev pub over : ℕ → Value → Value
 over n x = record { number = n; relative = x.relative; absolute = x.absolute; height = x.height + 1 }
 
+-- a node over one part with its number, which becomes an address, too
+abbrev pub addressed_over : Value → Value
+addressed_over x = record { number = x.number; relative = x.relative; absolute = true; height = x.height + 1 }
+
 -- a node over two parts, with the marks of both
 abbrev pub over_both : ℕ → Value → Value → Value
 over_both n x y = record {

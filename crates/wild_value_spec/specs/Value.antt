@@ -1,11 +1,11 @@
--- The value of an expression at a point, over what is known of a layout. What is not built yet is Unsupported.
+-- The value of an expression at a point, over what is known of a layout.
 use Rattle.std.specs.Prelude.{ℕ, zero, suc, ◌+◌, ◌-◌, ◌^◌, Bool, ◌||◌, not, ◌==◌, nat_lt, if◌then◌else◌, codes, List, [], ◌∷◌, Option, Some, None, Result, Ok, Err}
 use Rattle.std.specs.List.{list_any}
 use Rattle.std.specs.Option.{is_some}
 use Rattle.wild_numbering.specs.Numbering.{is_named}
 use Rattle.wild_ids.specs.Alignment.{rounded_up}
 use Rattle.wild_names.specs.declared.fault.Fault.{Fault}
-use Rattle.wild_names.specs.declared.fault.Fault.TheVariants.{DivisionByZero, ModuloByZero, AlignZero, UnknownSection, UnknownSymbol, NotLaidOut, SymbolCycle, DeepValue, BeforeSection, Overflow, AlignOverflow, AssertFailed, Unsupported}
+use Rattle.wild_names.specs.declared.fault.Fault.TheVariants.{DivisionByZero, ModuloByZero, AlignZero, UnknownRegion, UnknownSection, UnknownSymbol, NotLaidOut, SymbolCycle, DeepValue, BeforeSection, Overflow, AlignOverflow, AssertFailed}
 use Rattle.wild_expression_tree.specs.declared.tree.AssertCommand.{AssertCommand}
 use Rattle.wild_expression_tree.specs.declared.tree.Expression.{Expression}
 use Rattle.wild_expression_tree.specs.Shape.{Shape, Number, LocationCounter, SizeofHeaders, Symbol, Named, Ternary, Align, SegmentStart, Assert, shape}
@@ -17,6 +17,8 @@ use Rattle.wild_expression_tree.specs.declared.operator.Division.TheVariants as 
 use Rattle.wild_expression_tree.specs.declared.operator.Question.{Question}
 use Rattle.wild_expression_tree.specs.declared.operator.Question.TheVariants as question
 use Rattle.wild_expression_tree.specs.declared.operator.Unary.{Unary}
+use Rattle.wild_names.specs.declared.segment_name.SegmentName.{SegmentName}
+use Rattle.wild_value_spec.specs.declared.region.Region.{Region}
 use Rattle.wild_value_spec.specs.declared.value.DotSource.{DotSource}
 use Rattle.wild_value_spec.specs.declared.value.DotSource.TheVariants.{OfPlace, OfLoad, Zero, OfEnd}
 use Rattle.wild_value_spec.specs.declared.value.Point.{Point}
@@ -24,7 +26,7 @@ use Rattle.wild_value_spec.specs.declared.value.Value.{Value}
 use Rattle.wild_value_spec.specs.declared.value.Whole.{Whole}
 use Rattle.wild_value_spec.specs.Answer.{◌>>=◌, or_fault}
 use Rattle.wild_value_spec.specs.Known.{Known, Start, Load, End, Address, Dot, LoadDot}
-use Rattle.wild_value_spec.specs.Marks.{max_height, bare, unmarked, absolutely, relatively, absolutely_over, relatively_over, over, over_both, unmarked_over}
+use Rattle.wild_value_spec.specs.Marks.{max_height, bare, unmarked, absolutely, relatively, absolutely_over, relatively_over, over, addressed_over, over_both, unmarked_over}
 use Rattle.wild_value_spec.specs.Numbers.{arithmetic_result, divided_by, holds, decides, unary_result, truth, is_true}
 use Rattle.wild_value_spec.specs.Scope.{Name, Definition, OfRow, OfScript, Scope, definition_of, home}
 
@@ -156,6 +158,21 @@ module _ (scope : Scope) (statement : ℕ) (known : Known) where
   unfoldable pub load_named : Name → Result Value Fault
   load_named name = address_in load_of name (scope.«section» name)
 
+  -- ---- memory regions
+
+  -- what is asked of a region that must be there
+  abbrev pub region_in : (Region → Value) → Name → Option Region → Result Value Fault
+  region_in of name None = Err (UnknownRegion name)
+  region_in of name (Some r) = Ok (of r)
+
+  -- ORIGIN
+  unfoldable pub region_origin : Name → Result Value Fault
+  region_origin name = region_in (λ r. absolutely r.origin) name (scope.region name)
+
+  -- LENGTH
+  unfoldable pub region_length : Name → Result Value Fault
+  region_length name = region_in (λ r. unmarked r.length) name (scope.region name)
+
   -- ---- symbols
 
   -- 1 where the name has a definition
@@ -168,8 +185,8 @@ module _ (scope : Scope) (statement : ℕ) (known : Known) where
   named_value question.Alignof name = Ok (alignment name)
   named_value question.Addr name = start_named name
   named_value question.Loadaddr name = load_named name
-  named_value question.Origin name = Err (Unsupported statement)
-  named_value question.Length name = Err (Unsupported statement)
+  named_value question.Origin name = region_origin name
+  named_value question.Length name = region_length name
   named_value question.Defined name = Ok (defined_value name)
 
   -- an address counted from the start of its section, of parts of this height
@@ -246,6 +263,15 @@ module _ (scope : Scope) (statement : ℕ) (known : Known) where
         part n p >>= (λ align.
         if align.number == 0 then Err (AlignZero statement) else (subject a p >>= (λ x. multiple_value align x)))
 
+    -- the start of a segment: the one that is asked for, else what the expression is worth, as an address
+    abbrev pub started_by : Option ℕ → Expression → Point → Result Value Fault
+    started_by (Some n) a p = Ok (absolutely n)
+    started_by None a p = part a p >>= (λ x. Ok (addressed_over x))
+
+    -- SEGMENT_START
+    unfoldable pub segment_value : SegmentName → Expression → Point → Result Value Fault
+    segment_value segment a p = started_by (scope.segment_start segment) a p
+
     -- what a definition is worth at its own point, on a path that holds its name
     abbrev pub whole : List Name → Name → Definition → Result Whole Fault
     whole along name (OfRow row offset s) = row_whole name row offset
@@ -273,7 +299,7 @@ module _ (scope : Scope) (statement : ℕ) (known : Known) where
     abbrev pub node : Point → Shape Expression → Result Value Fault
     node p (Number n) = Ok (unmarked n)
     node p LocationCounter = counter p
-    node p SizeofHeaders = Err (Unsupported statement)
+    node p SizeofHeaders = Ok (unmarked scope.header_size)
     node p (Symbol name) = symbol name p
     node p (Named q name) = named_value q name
     node p (Shape.Arithmetic o a b) = arithmetic_value o a b p
@@ -283,7 +309,7 @@ module _ (scope : Scope) (statement : ℕ) (known : Known) where
     node p (Shape.Unary o a) = unary_value o a p
     node p (Ternary c a b) = ternary_value c a b p
     node p (Align n a) = align_value n a p
-    node p (SegmentStart segment a) = Err (Unsupported statement)
+    node p (SegmentStart segment a) = segment_value segment a p
     node p (Assert c message at) = assert_value c message at p
 
   -- the value of an expression at a point, where this many levels are left

@@ -2,7 +2,9 @@
 #![tactic(auto)]
 
 mod constant;
+mod region;
 mod value;
 
 pub use constant::ConstFault;
+pub use region::Region;
 pub use value::{DotSource, Point, Value, Whole};

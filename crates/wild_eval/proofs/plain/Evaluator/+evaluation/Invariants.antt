@@ -45,3 +45,6 @@ decreases-script_whole l = 8 * l.levels + 3
 
 abbrev pub decreases-assert_value : goal.decreases-assert_value
 decreases-assert_value l = 8 * l.levels + 6
+
+abbrev pub decreases-segment_value : goal.decreases-segment_value
+decreases-segment_value l = 8 * l.levels + 6
