@@ -6,3 +6,5 @@ pub mod Refused
 pub mod Decisions
 pub mod Orphaned
 pub mod Parts
+pub mod Numbers
+pub mod Memories

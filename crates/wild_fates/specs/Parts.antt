@@ -1,14 +1,20 @@
 -- What the parts of a script and a table are.
-use Rattle.std.specs.Prelude.{◌≡◌, ◌-◌, ◌++◌, List, length}
+use Rattle.std.specs.Prelude.{◌≡◌, ◌-◌, ◌++◌, List, [], length}
+use Rattle.wild_names.specs.declared.fault.Fault.TheVariants.{DuplicateName, DuplicateSection}
 use Rattle.wild_script_tree.specs.declared.tree.Command.{Command}
+use Rattle.wild_script_tree.specs.declared.tree.Section.{Section}
+use Rattle.wild_plan_spec.specs.declared.options.PlanOptions.{PlanOptions}
 use Rattle.wild_plan_spec.specs.declared.row.InputRow.{InputRow}
 use Rattle.wild_plan_spec.specs.declared.row.InputTable.{InputTable}
+use Rattle.wild_plan_spec.specs.Checks.{Check, memory_checks, name_checks, place_checks, reference_checks}
 use Rattle.wild_plan_spec.specs.Statements.{sections_of}
 use Rattle.wild_plan_spec.specs.Rules.{Rule}
-use Rattle.wild_plan_spec.specs.Fates.{orphans, names_asked, all_fates, section_names, fates_of}
+use Rattle.wild_plan_spec.specs.Fates.{names_of, orphans, names_asked, all_fates, section_names, fates_of}
 use Rattle.wild_plan_spec.specs.Names.{Name}
 use Rattle.wild_plan_spec.specs.Places.{Place, script_places}
 use Rattle.wild_plan_spec.specs.Orphans.{places_of}
+use Rattle.wild_plan_spec.specs.Regions.{MemoryAt, last_or, memories, names_in, no_memory, region_names, regions_of}
+use Rattle.wild_fates.specs.declared.regions.Regions.{Regions}
 use Rattle.wild_fates.specs.declared.script_fates.Parts.{Parts}
 use Rattle.wild_fates.specs.declared.script_fates.ScriptFates.{ScriptFates}
 use Rattle.wild_fates.specs.Orphaned.{orphans_from}
@@ -20,9 +26,29 @@ pub record IsParts (t : List Command) (parts : Parts) : Type 0 where
   pub sections : targets parts.sections ≡ sections_of t
   pub places : shown_places parts.places ≡ script_places t
 
--- where rows go by these rules, with orphans after these places and these names
-pub record AreFatesBy (parts : Parts) (rules : List Rule) (own : List Name) (rows : List InputRow) (script_fates : ScriptFates) : Type 0 where
+-- ---- checks, over what a script is taken apart into
+
+-- the last MEMORY of these places, or no regions
+abbrev pub memory_in : List Place → MemoryAt
+memory_in places = last_or no_memory (memories 0 places)
+
+-- what is checked of names, where regions have these
+abbrev pub names_checked : List Name → List Section → List Check
+names_checked regions sections = name_checks DuplicateName [] regions
+    ++ (reference_checks regions sections
+    ++ name_checks DuplicateSection [] (names_of sections))
+
+-- what is checked of these places and sections
+abbrev pub parts_checked : PlanOptions → List Place → List Section → List Check
+parts_checked options places sections = place_checks options 0 places
+    ++ (memory_checks (memory_in places)
+    ++ names_checked (names_in (memory_in places).regions) sections)
+
+-- where rows go by these rules, with orphans after these places and these names, among these regions
+pub record AreFatesBy (parts : Parts) (regions : Regions) (rules : List Rule) (own : List Name) (rows : List InputRow) (script_fates : ScriptFates) : Type 0 where
   pub sections : targets script_fates.sections ≡ targets parts.sections
+  pub regions : script_fates.regions.regions ≡ regions.regions
+  pub region_names : script_fates.regions.names ≡ regions.names
   pub names : script_fates.names ≡ own ++ orphans own (names_asked rules rows)
   pub fates : script_fates.fates ≡ all_fates rules (own ++ orphans own (names_asked rules rows)) rows
   pub all_places : shown_places script_fates.places ≡ shown_places parts.places ++ orphans_from (length own) (length (own ++ orphans own (names_asked rules rows)) - length own)
@@ -30,6 +56,8 @@ pub record AreFatesBy (parts : Parts) (rules : List Rule) (own : List Name) (row
 -- where the rows of a table go
 pub record AreFates (t : List Command) (inputs : InputTable) (script_fates : ScriptFates) : Type 0 where
   pub sections : targets script_fates.sections ≡ sections_of t
+  pub regions : script_fates.regions.regions ≡ regions_of t
+  pub region_names : script_fates.regions.names ≡ region_names t
   pub names : script_fates.names ≡ section_names t inputs
   pub fates : script_fates.fates ≡ fates_of t inputs
   pub places : shown_places script_fates.places ≡ places_of t inputs

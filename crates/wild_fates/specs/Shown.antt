@@ -8,7 +8,7 @@ use Rattle.wild_fates.specs.declared.statements.Statement.TheVariants.{Inner, Ou
 use Rattle.wild_fates.specs.declared.places.Task.{Task}
 use Rattle.wild_fates.specs.declared.places.Task.TheVariants.{Assign, Provide, Locate, Check}
 use Rattle.wild_fates.specs.declared.places.Place.{Place}
-use Rattle.wild_fates.specs.declared.places.Place.TheVariants.{SetLocation, Wait, Open, Collect, Rows, Close, Discard, Idle, Unbuilt}
+use Rattle.wild_fates.specs.declared.places.Place.TheVariants.{SetLocation, Wait, Open, Collect, Rows, Close, Discard, Idle, Memory, Headers, Format}
 
 -- a statement, without that it is borrowed
 abbrev pub shown_statement : Statement → statements.Statement
@@ -36,7 +36,9 @@ shown_place (Rows q) = spec.Rows q
 shown_place (Close s rest) = spec.Close s rest
 shown_place (Discard x) = spec.Discard x.now
 shown_place Idle = spec.Idle
-shown_place Unbuilt = spec.Unbuilt
+shown_place (Memory regions) = spec.Memory regions.now
+shown_place (Headers headers) = spec.Headers headers.now
+shown_place (Format format) = spec.Format format.now
 
 -- the same of each
 abbrev pub shown_places : List Place → List spec.Place

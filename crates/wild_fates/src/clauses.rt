@@ -7,6 +7,8 @@ ghost use Rattle.wild_names.specs.declared.fault.Fault.TheVariants as fault;
 ghost use Rattle.wild_plan_spec.specs.Checks as spec;
 ghost use Rattle.wild_plan_spec.specs.Checks.{failing};
 ghost use Rattle.wild_plan_spec.specs.Statements.{is_plain};
+ghost use Rattle.wild_value_spec.specs.Const.{const};
+ghost use Rattle.wild_fates.specs.Numbers.{number_or_fault};
 ghost use Rattle.wild_fates.specs.Passes.{Passes};
 
 use wild_base::{Alignment, Fault};
@@ -21,6 +23,16 @@ fn constant_fault(statement: usize, reason: ConstFault) -> Fault
         ConstFault::NotConstant => Fault::NotConstant { statement },
         ConstFault::DivisionByZero => Fault::DivisionByZero { statement },
         ConstFault::ModuloByZero => Fault::ModuloByZero { statement },
+    }
+}
+
+/// The number of a constant in a statement, or why there is none.
+pub fn number_or_fault(statement: usize, expression: &Expression) -> Result<u64, Fault>
+    ensures { result ≡ number_or_fault statement (const expression.now) }
+{
+    match evaluate_const(expression) {
+        Ok(number) => Ok(number),
+        Err(reason) => Err(constant_fault(statement, reason)),
     }
 }
 

@@ -12,8 +12,8 @@ use std::alloc::Global;
 use wild_base::{Name, NoMemory};
 use wild_plan_spec::{Chunk, Where};
 use wild_script_tree::{
-    AssertCommand, Command, ContentsCommand, Expression, Matcher, ProvideSymbolDefinition, Section,
-    SectionCommand,
+    AssertCommand, Command, ContentsCommand, Expression, Matcher, MemoryRegion, OutputFormat, Phdr,
+    ProvideSymbolDefinition, Section, SectionCommand,
 };
 
 /// What is evaluated once all places are laid out.
@@ -48,8 +48,12 @@ pub enum Place<'a> {
     Discard(&'a Section),
     /// `/DISCARD/` ends, or what stands here does nothing.
     Idle,
-    /// A command whose meaning is not built yet.
-    Unbuilt,
+    /// Memory regions, of which the last MEMORY has those that count.
+    Memory(&'a [MemoryRegion]),
+    /// Program headers.
+    Headers(&'a [Phdr]),
+    /// The format of the output.
+    Format(&'a OutputFormat),
 }
 
 fn push<'a>(places: &mut Items<Place<'a>>, place: Place<'a>) -> Result<(), NoMemory>
@@ -201,8 +205,12 @@ fn push_inner<'a>(
     push(places, Place::Wait(Where::Between, task))
 }
 
-fn push_outer<'a>(places: &mut Items<Place<'a>>, command: &'a Command) -> Result<(), NoMemory>
-    ensures { OnOk result (shown_places places.new ≡ shown_places places.old ++ outer_places command.now) }
+fn push_outer<'a>(
+    places: &mut Items<Place<'a>>,
+    sections: usize,
+    command: &'a Command,
+) -> Result<(), NoMemory>
+    ensures { OnOk result (shown_places places.new ≡ shown_places places.old ++ outer_places sections command.now) }
 {
     let task = match command {
         Command::SymbolDefinition { name, value } => Task::Assign(name, value),
@@ -215,12 +223,12 @@ fn push_outer<'a>(places: &mut Items<Place<'a>>, command: &'a Command) -> Result
         | Command::Ignored
         | Command::Entry(_)
         | Command::Version(_) => return push(places, Place::Idle),
-        Command::Memory(_) | Command::Phdrs(_) | Command::OutputFormat(_) => {
-            return push(places, Place::Unbuilt);
-        }
+        Command::Memory(regions) => return push(places, Place::Memory(regions.as_slice())),
+        Command::Phdrs(headers) => return push(places, Place::Headers(headers.as_slice())),
+        Command::OutputFormat(format) => return push(places, Place::Format(format)),
         Command::Sections(_) => return Ok(()),
     };
-    push(places, Place::Wait(Where::Outermost, task))
+    push(places, Place::Wait(Where::Outermost(sections), task))
 }
 
 fn push_statement<'a>(
@@ -232,7 +240,7 @@ fn push_statement<'a>(
 {
     match *statement {
         Statement::Inner(command) => push_inner(places, number, command),
-        Statement::Outer(command) => push_outer(places, command),
+        Statement::Outer(command) => push_outer(places, number, command),
     }
 }
 

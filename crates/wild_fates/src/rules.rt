@@ -5,7 +5,7 @@ ghost use Rattle.std.specs.Option.{option_copied, option_to_list};
 ghost use Rattle.wild_names.specs.declared.fault.Fault.TheVariants as fault;
 ghost use Rattle.wild_rules.specs.declared.fault.RuleFault.TheVariants as why;
 ghost use Rattle.wild_rules.specs.Making.{script_rule};
-ghost use Rattle.wild_plan_spec.specs.Checks.{pattern_check, pattern_checks, statement_checks, checks_at, place_checks, failing};
+ghost use Rattle.wild_plan_spec.specs.Checks.{pattern_check, pattern_checks, statement_checks, checks_at, is_place_built, place_checks, failing};
 ghost use Rattle.wild_plan_spec.specs.Fates.{name_decision};
 ghost use Rattle.wild_plan_spec.specs.Rules.{rules_in};
 ghost use Rattle.wild_fates.specs.Numbered.{outcome_decision, outcome_for, rule_list, numbered_patterns, numbered_place, number_for, chunks_at, chunks_in, numbered_rules};
@@ -13,14 +13,14 @@ ghost use Rattle.wild_fates.specs.Refused.{bad_name};
 ghost use Rattle.wild_fates.specs.Passes.{Passes};
 ghost use Rattle.wild_fates.specs.Shown.{shown_place, shown_places};
 
-use crate::built::is_place_built;
 use crate::clauses::{check_discard, check_opening};
+use crate::formats::check_format;
 use crate::places::Place;
 use sqlite_items::Items;
 use std::alloc::Global;
 use std::marker::Model;
 use wild_base::{Fault, Name, NoMemory, OutputSectionId};
-use wild_plan_spec::{Chunk, Decision, InputRow, Kept};
+use wild_plan_spec::{Chunk, Decision, InputRow, Kept, PlanOptions};
 use wild_rules::{RuleFault, SectionOutputInfo, SectionRule, SectionRuleOutcome, SectionRules};
 use wild_script_tree::{Matcher, SectionPattern};
 
@@ -198,6 +198,17 @@ fn number_chunk(
     Ok(Some(OutputSectionId::from_usize(number)))
 }
 
+// Whether what stands at a place is built: no program headers, and no section that names any.
+fn is_place_built(place: &Place<'_>) -> bool
+    ensures { result ≡ is_place_built (shown_place place.now) }
+{
+    match *place {
+        Place::Open(_, Some(section)) => section.phdrs.is_empty(),
+        Place::Headers(_) => false,
+        _ => true,
+    }
+}
+
 /// The rules of the first places, and the chunks that have numbers.
 #[derive(Drop)]
 struct NumberedRules {
@@ -206,16 +217,18 @@ struct NumberedRules {
 }
 
 impl NumberedRules {
-    // What a statement says is checked: a section of its clauses, `/DISCARD/`, and a matcher, whose rules it makes.
+    // What a statement says is checked: a section of its clauses, `/DISCARD/`, a format, and a matcher, whose rules it
+    // makes.
     fn push_statement(
         &mut self,
         alloc: Global,
+        options: &PlanOptions,
         statement: usize,
         place: &Place<'_>,
     ) -> Result<(), Fault>
         ensures rules { OnOk result (self.new.rules ≡ self.old.rules ++ numbered_place self.old.chunks (shown_place place.now)) }
         ensures chunks { OnOk result (self.new.chunks ≡ self.old.chunks ++ chunks_at (shown_place place.now)) }
-        ensures passes { Passes (failing (statement_checks statement (shown_place place.now))) result }
+        ensures passes { Passes (failing (statement_checks options.now statement (shown_place place.now))) result }
     {
         match *place {
             Place::Collect(chunk, matcher) => {
@@ -224,6 +237,7 @@ impl NumberedRules {
             }
             Place::Open(_, Some(section)) => check_opening(statement, section),
             Place::Discard(section) => check_discard(statement, section),
+            Place::Format(format) => check_format(alloc, options, format),
             _ => Ok(()),
         }
     }
@@ -232,14 +246,15 @@ impl NumberedRules {
     fn push_place(
         &mut self,
         alloc: Global,
+        options: &PlanOptions,
         statement: usize,
         place: &Place<'_>,
     ) -> Result<(), Fault>
         ensures rules { OnOk result (self.new.rules ≡ self.old.rules ++ numbered_place self.old.chunks (shown_place place.now)) }
         ensures chunks { OnOk result (self.new.chunks ≡ self.old.chunks ++ chunks_at (shown_place place.now)) }
-        ensures passes { Passes (failing (checks_at statement (shown_place place.now))) result }
+        ensures passes { Passes (failing (checks_at options.now statement (shown_place place.now))) result }
     {
-        self.push_statement(alloc, statement, place)?;
+        self.push_statement(alloc, options, statement, place)?;
         if is_place_built(place) {
             Ok(())
         } else {
@@ -249,29 +264,37 @@ impl NumberedRules {
 }
 
 #[tactic(auto, using(std::proofs::lemmas::Grind::common_steps, crate::proofs::Failing::failing_after))]
-fn number_rules(alloc: Global, places: &[Place<'_>]) -> Result<NumberedRules, Fault>
+fn number_rules(
+    alloc: Global,
+    options: &PlanOptions,
+    places: &[Place<'_>],
+) -> Result<NumberedRules, Fault>
     ensures rules { IfOk result (λ numbered. numbered.rules ≡ numbered_rules [] (shown_places places.now)) }
     ensures chunks { IfOk result (λ numbered. numbered.chunks ≡ chunks_in (shown_places places.now)) }
-    ensures passes { Passes (failing (place_checks 0 (shown_places places.now))) result }
+    ensures passes { Passes (failing (place_checks options.now 0 (shown_places places.now))) result }
 {
     let mut numbered = NumberedRules {
         rules: Items::new(alloc),
         chunks: Items::new(alloc),
     };
     for (statement, place) in places.iter().enumerate() {
-        numbered.push_place(alloc, statement, place)?;
+        numbered.push_place(alloc, options, statement, place)?;
     }
     Ok(numbered)
 }
 
 /// The rules of these places, in their order. The fault is the first of a place: what a section or `/DISCARD/` must not
-/// say, a pattern that has no reading, or that what stands there is not built.
+/// say, a pattern that has no reading, a format of another machine, or that what stands there is not built.
 #[tactic(auto, using(crate::proofs::Numbered::rules_are))]
-pub fn find_rules(alloc: Global, places: &[Place<'_>]) -> Result<Rules, Fault>
+pub fn find_rules(
+    alloc: Global,
+    options: &PlanOptions,
+    places: &[Place<'_>],
+) -> Result<Rules, Fault>
     ensures rules { IfOk result (λ rules. rules ≡ rules_in (shown_places places.now)) }
-    ensures passes { Passes (failing (place_checks 0 (shown_places places.now))) result }
+    ensures passes { Passes (failing (place_checks options.now 0 (shown_places places.now))) result }
 {
-    let NumberedRules { rules, chunks } = number_rules(alloc, places)?;
+    let NumberedRules { rules, chunks } = number_rules(alloc, options, places)?;
     let rules = SectionRules::from_rules(alloc, rules.as_slice())?;
     Ok(Rules { rules, chunks })
 }

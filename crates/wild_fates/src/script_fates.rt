@@ -1,24 +1,28 @@
 //! From a script and a table to places, sections and fates.
 
-ghost use Rattle.std.specs.Prelude.{◌≡◌, ◌∷◌, ◌++◌, [], IfOk};
+ghost use Rattle.std.specs.Prelude.{◌≡◌, ◌∷◌, ◌++◌, [], IfOk, map};
 ghost use Rattle.wild_names.specs.declared.fault.Fault.TheVariants.{DuplicateSection};
 ghost use Rattle.wild_plan_spec.specs.Checks.{name_checks, script_checks, failing};
 ghost use Rattle.wild_plan_spec.specs.Fates.{names_of};
+ghost use Rattle.wild_plan_spec.specs.Regions.{names_in, region_of};
+ghost use Rattle.wild_plan_spec.specs.Rules.{rules_in};
 ghost use Rattle.wild_fates.specs.Passes.{Passes, repeated};
-ghost use Rattle.wild_fates.specs.Parts.{IsParts, AreFatesBy, AreFates};
+ghost use Rattle.wild_fates.specs.Parts.{IsParts, AreFatesBy, AreFates, memory_in, names_checked, parts_checked};
 ghost use Rattle.wild_fates.specs.Targets.{targets};
 ghost use Rattle.wild_fates.specs.Shown.{shown_places};
 
 use crate::fates::{Fates, find_fates};
 use crate::places::{Place, find_places, push_orphans};
+use crate::regions::{Regions, check_references, check_regions, last_memory, number_regions};
 use crate::rules::{Rules, find_rules};
 use crate::section_names::SectionNames;
 use crate::statements::{find_sections, find_statements};
 use sqlite_items::Items;
 use std::alloc::Global;
 use wild_base::{Fault, NoMemory};
-use wild_plan_spec::{InputRow, InputTable, Kept};
-use wild_script_tree::{Command, Section};
+use wild_numbering::Numbering;
+use wild_plan_spec::{InputRow, InputTable, Kept, PlanOptions};
+use wild_script_tree::{Command, MemoryRegion, Section};
 
 /// What a script is taken apart into.
 #[derive(Drop)]
@@ -32,6 +36,8 @@ pub struct Parts<'a> {
 pub struct ScriptFates<'a> {
     /// The sections of the script.
     pub sections: Items<&'a Section>,
+    /// The memory regions of the script.
+    pub regions: Regions,
     /// The names of the sections, orphans last.
     pub names: SectionNames<'a>,
     /// The places of the script, and after them those of the orphans.
@@ -79,16 +85,89 @@ fn number_sections<'a>(alloc: Global, sections: &[&'a Section]) -> Result<Sectio
     Ok(names)
 }
 
+/// What is known of a script whose checks hold.
+#[derive(Drop)]
+pub struct Checked<'a> {
+    pub rules: Rules,
+    pub regions: Regions,
+    /// The names of its sections.
+    pub own: SectionNames<'a>,
+}
+
+/// The names of the regions and of the sections of a script.
+#[derive(Drop)]
+struct ScriptNames<'a> {
+    regions: Numbering,
+    own: SectionNames<'a>,
+}
+
+// The names of these regions and sections. The fault is first that of a region with the name of an earlier one, then that of
+// a section that names none of them, then that of a section with the name of an earlier one.
+#[tactic(auto, using(std::proofs::lemmas::Grind::common_steps, crate::proofs::Failing::none_after))]
+fn check_names<'a>(
+    alloc: Global,
+    regions: &[MemoryRegion],
+    sections: &[&'a Section],
+) -> Result<ScriptNames<'a>, Fault>
+    ensures regions { IfOk result (λ names. names.regions ≡ names_in regions.now) }
+    ensures own { IfOk result (λ names. names.own ≡ names_of (targets sections.now)) }
+    ensures passes { Passes (failing (names_checked (names_in regions.now) (targets sections.now))) result }
+{
+    let numbers = number_regions(alloc, regions)?;
+    check_references(alloc, &numbers, sections)?;
+    let own = number_sections(alloc, sections)?;
+    Ok(ScriptNames {
+        regions: numbers,
+        own,
+    })
+}
+
+// What is checked of a script alone: its places, then its memory regions, then its names.
+#[tactic(auto, using(std::proofs::lemmas::Grind::common_steps, crate::proofs::Failing::none_after))]
+fn check_script<'a>(
+    alloc: Global,
+    options: &PlanOptions,
+    parts: &Parts<'a>,
+) -> Result<Checked<'a>, Fault>
+    ensures rules { IfOk result (λ checked. checked.rules ≡ rules_in (shown_places parts.now.places)) }
+    ensures regions { IfOk result (λ checked. checked.regions.regions ≡ map region_of (memory_in (shown_places parts.now.places)).regions) }
+    ensures region_names { IfOk result (λ checked. checked.regions.names ≡ names_in (memory_in (shown_places parts.now.places)).regions) }
+    ensures own { IfOk result (λ checked. checked.own ≡ names_of (targets parts.now.sections)) }
+    ensures passes { Passes (failing (parts_checked options.now (shown_places parts.now.places) (targets parts.now.sections))) result }
+{
+    let places = parts.places.as_slice();
+    let rules = find_rules(alloc, options, places)?;
+    let memory = last_memory(places);
+    let regions = check_regions(alloc, &memory)?;
+    let names = check_names(alloc, memory.regions, parts.sections.as_slice())?;
+    let ScriptNames {
+        regions: numbers,
+        own,
+    } = names;
+    Ok(Checked {
+        rules,
+        regions: Regions {
+            names: numbers,
+            regions,
+        },
+        own,
+    })
+}
+
 // The fates of the rows, and the sections and places with those of the orphans.
 fn decide_by<'a>(
     alloc: Global,
     parts: Parts<'a>,
-    rules: &Rules,
-    own: SectionNames<'a>,
+    checked: Checked<'a>,
     rows: &'a [InputRow],
 ) -> Result<ScriptFates<'a>, NoMemory>
-    ensures { IfOk result (AreFatesBy parts.entry rules.now own.entry rows.now) }
+    ensures { IfOk result (AreFatesBy parts.entry checked.entry.regions checked.entry.rules checked.entry.own rows.now) }
 {
+    let Checked {
+        rules,
+        regions,
+        own,
+    } = checked;
     let Parts {
         sections,
         mut places,
@@ -97,35 +176,37 @@ fn decide_by<'a>(
     let Fates {
         sections: names,
         fates,
-    } = find_fates(alloc, own, rules, rows)?;
+    } = find_fates(alloc, own, &rules, rows)?;
     push_orphans(&mut places, first, names.len())?;
     Ok(ScriptFates {
         sections,
+        regions,
         names,
         places,
         fates,
     })
 }
 
-/// Where the rows of a table go by a script: its places and sections, with those of the orphans, and the fate of each
-/// row.
+/// Where the rows of a table go by a script: its places, sections and memory regions, with the places and sections of
+/// orphans, and the fate of each row.
 ///
 /// # Errors
 ///
-/// First that of the first place that fails: what a section or `/DISCARD/` must not say, a pattern without a reading, or
-/// what is not built. Then that of the first section with the name of an earlier one. NoMemory may come at any point.
-#[tactic(auto, using(std::proofs::lemmas::Grind::common_steps, crate::proofs::Failing::none_after))]
+/// First that of the first place that fails: what a section or `/DISCARD/` must not say, a pattern without a reading, a format
+/// of another machine, or what is not built. Then that of the first region of the last MEMORY without an origin, a length or
+/// an end. Then that of the first name: of a region with the name of an earlier one, of a section that names no region, of a
+/// section with the name of an earlier one. NoMemory may come at any point.
 pub fn decide_fates<'a>(
     alloc: Global,
+    options: &PlanOptions,
     commands: &'a [Command],
     inputs: &'a InputTable,
 ) -> Result<ScriptFates<'a>, Fault>
     ensures fates { IfOk result (AreFates commands.now inputs.now) }
-    ensures passes { Passes (failing (script_checks commands.now)) result }
+    ensures passes { Passes (failing (script_checks options.now commands.now)) result }
 {
     let parts = find_parts(alloc, commands)?;
-    let rules = find_rules(alloc, parts.places.as_slice())?;
-    let own = number_sections(alloc, parts.sections.as_slice())?;
-    let fates = decide_by(alloc, parts, &rules, own, inputs.rows.as_slice())?;
+    let checked = check_script(alloc, options, &parts)?;
+    let fates = decide_by(alloc, parts, checked, inputs.rows.as_slice())?;
     Ok(fates)
 }

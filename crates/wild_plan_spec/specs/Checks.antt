@@ -1,33 +1,41 @@
 -- What is checked before a script and its rows are laid out.
 use Rattle.std.specs.Prelude.{ℕ, ◌+◌, ◌^◌, Bool, true, false, not, ◌&&◌, ◌==◌, length, nat_le, nat_lt, List, [], ◌∷◌, ◌++◌, Option, Some, None, Ok, Err, slice_get}
-use Rattle.std.specs.Option.{option_map, is_some, is_none}
+use Rattle.std.specs.Option.{option_map, is_some, unwrap_or}
 use Rattle.std.specs.Result.{is_ok}
 use Rattle.std.specs.List.{find, list_any}
 use Rattle.wild_ids.specs.Alignment.{exponent_of}
 use Rattle.wild_numbering.specs.Numbering.{is_named}
 use Rattle.wild_names.specs.declared.fault.Fault.{Fault}
 use Rattle.wild_names.specs.declared.fault.Fault.TheVariants as fault
-use Rattle.wild_names.specs.declared.fault.Fault.TheVariants.{BadRow, BadSymbolRow, BadDiscard, BadPattern, BadName, BadAlignment, BadFill, DuplicateSection, DuplicateSymbol, Unsupported}
+use Rattle.wild_names.specs.declared.fault.Fault.TheVariants.{BadRow, BadSymbolRow, BadDiscard, BadPattern, BadName, BadAlignment, BadFill, DuplicateName, DuplicateSection, DuplicateSymbol, OutputFormat, Overflow, UnknownRegion, Unsupported}
+use Rattle.wild_names.specs.declared.target.Architecture.{Architecture}
+use Rattle.wild_names.specs.declared.target.Architecture.TheVariants as machine
+use Rattle.wild_names.specs.declared.target.Endianness.{Endianness}
+use Rattle.wild_names.specs.declared.target.Endianness.TheVariants.{Little, Big}
+use Rattle.wild_names.specs.Target.{architecture_of}
 use Rattle.wild_rules.specs.Making.{names_of as patterns_of, files_of}
 use Rattle.wild_expression_tree.specs.declared.tree.Expression.{Expression}
 use Rattle.wild_script_tree.specs.declared.tree.Command.{Command}
 use Rattle.wild_script_tree.specs.declared.tree.ContentsCommand.{ContentsCommand}
 use Rattle.wild_script_tree.specs.declared.tree.ContentsCommand.TheVariants.{Matcher as OfMatcher}
+use Rattle.wild_script_tree.specs.declared.tree.MemoryRegion.{MemoryRegion}
+use Rattle.wild_script_tree.specs.declared.tree.OutputFormat.{OutputFormat as OfFormat}
 use Rattle.wild_script_tree.specs.declared.tree.Section.{Section}
 use Rattle.wild_script_tree.specs.declared.tree.SectionPattern.{SectionPattern}
 use Rattle.wild_value_spec.specs.declared.constant.ConstFault.{ConstFault}
 use Rattle.wild_value_spec.specs.declared.constant.ConstFault.TheVariants as why
 use Rattle.wild_value_spec.specs.Const.{Constant, const}
+use Rattle.wild_plan_spec.specs.declared.options.PlanOptions.{PlanOptions}
 use Rattle.wild_plan_spec.specs.declared.row.InputRow.{InputRow}
 use Rattle.wild_plan_spec.specs.declared.row.InputTable.{InputTable}
 use Rattle.wild_plan_spec.specs.declared.row.SymbolRow.{SymbolRow}
 use Rattle.wild_plan_spec.specs.Names.{Name}
-use Rattle.wild_plan_spec.specs.Built.{is_built}
 use Rattle.wild_plan_spec.specs.Case.{Case}
 use Rattle.wild_plan_spec.specs.Definitions.{entry_names, firm_entries}
 use Rattle.wild_plan_spec.specs.Fates.{names_of, fates_of}
-use Rattle.wild_plan_spec.specs.Places.{Place, SetLocation, Wait, Open, Collect, Discard, Unbuilt, Task, Assign, Provide, Locate, Check as Condition, script_places}
+use Rattle.wild_plan_spec.specs.Places.{Place, Open, Collect, Discard, Headers, Format, script_places}
 use Rattle.wild_plan_spec.specs.Orphans.{places_of}
+use Rattle.wild_plan_spec.specs.Regions.{MemoryAt, memory_of, region_names}
 use Rattle.wild_plan_spec.specs.Statements.{is_plain, sections_of}
 
 -- a condition, and the fault that stands for its failure
@@ -62,33 +70,10 @@ table_checks inputs = row_checks 0 inputs.rows ++ symbol_checks inputs.rows 0 in
 
 -- ---- what is built
 
--- the expression of a task is built
-abbrev pub is_task_built : Task → Bool
-is_task_built (Assign name value) = is_built value
-is_task_built (Provide d) = is_built d.value
-is_task_built (Locate address) = is_built address
-is_task_built (Condition c) = is_built c.expression
-
--- an expression is built, where there is one
-abbrev pub is_clause_built : Option Expression → Bool
-is_clause_built None = true
-is_clause_built (Some e) = is_built e
-
--- the clauses of a section are built, and it names neither a region nor headers; an orphan has no clauses
-abbrev pub is_section_built : Option Section → Bool
-is_section_built None = true
-is_section_built (Some x) = is_clause_built x.start_address_expression
-    && (is_clause_built x.at_address
-    && (is_clause_built x.alignment
-    && (is_clause_built (option_map (λ f. f.value) x.fill)
-    && (is_none x.region && length x.phdrs == 0))))
-
--- what stands at a place is built
+-- what stands at a place is built: no program headers, and no section that names any
 abbrev pub is_place_built : Place → Bool
-is_place_built (SetLocation s e) = is_built e
-is_place_built (Wait w task) = is_task_built task
-is_place_built (Open s x) = is_section_built x
-is_place_built Unbuilt = false
+is_place_built (Open s (Some x)) = length x.phdrs == 0
+is_place_built (Headers headers) = false
 is_place_built p = true
 
 -- ---- clauses
@@ -148,23 +133,56 @@ abbrev pub pattern_checks : ℕ → Option Name → List SectionPattern → List
 pattern_checks n file [] = []
 pattern_checks n file (p ∷ ps) = pattern_check n file p ++ pattern_checks n file ps
 
+-- ---- the format of the output
+
+-- the name of a format for this order of bytes: the one for big or for little, where there is one
+abbrev pub format_for : Option Endianness → OfFormat → Name
+format_for (Some Big) f = unwrap_or f.big f.default
+format_for (Some Little) f = unwrap_or f.little f.default
+format_for None f = f.default
+
+-- a format of one machine is for another, which is none where it is not known
+abbrev pub is_for : Architecture → Architecture → Bool
+is_for machine.X86_64 machine.X86_64 = true
+is_for machine.AArch64 machine.AArch64 = true
+is_for machine.RiscV64 machine.RiscV64 = true
+is_for machine.LoongArch64 machine.LoongArch64 = true
+is_for a b = false
+
+-- the format that is chosen is one for the machine
+abbrev pub format_checks : PlanOptions → OfFormat → List Check
+format_checks o f = check (is_for (architecture_of (format_for o.endian f)) o.architecture) (OutputFormat (format_for o.endian f))
+
 -- ---- places
 
--- what a statement at place n says: a section of its clauses, `/DISCARD/`, and a matcher of its patterns
-abbrev pub statement_checks : ℕ → Place → List Check
-statement_checks n (Open s (Some x)) = opening_checks n x
-statement_checks n (Discard x) = check (holds_matchers_alone x) (BadDiscard n)
-statement_checks n (Collect q m) = pattern_checks n m.input_file_pattern m.input_section_name_patterns
-statement_checks n p = []
+-- what a statement at place n says: a section of its clauses, `/DISCARD/`, a matcher of its patterns, and a format
+abbrev pub statement_checks : PlanOptions → ℕ → Place → List Check
+statement_checks o n (Open s (Some x)) = opening_checks n x
+statement_checks o n (Discard x) = check (holds_matchers_alone x) (BadDiscard n)
+statement_checks o n (Collect q m) = pattern_checks n m.input_file_pattern m.input_section_name_patterns
+statement_checks o n (Format f) = format_checks o f
+statement_checks o n p = []
 
 -- what is checked of place n: what it says, and then that what stands there is built
-abbrev pub checks_at : ℕ → Place → List Check
-checks_at n p = statement_checks n p ++ check (is_place_built p) (Unsupported n)
+abbrev pub checks_at : PlanOptions → ℕ → Place → List Check
+checks_at o n p = statement_checks o n p ++ check (is_place_built p) (Unsupported n)
 
 -- the first place of the list has the number n
-abbrev pub place_checks : ℕ → List Place → List Check
-place_checks n [] = []
-place_checks n (p ∷ ps) = checks_at n p ++ place_checks (n + 1) ps
+abbrev pub place_checks : PlanOptions → ℕ → List Place → List Check
+place_checks o n [] = []
+place_checks o n (p ∷ ps) = checks_at o n p ++ place_checks o (n + 1) ps
+
+-- ---- memory regions
+
+-- a region of the MEMORY at place n has an origin and a length, and its end is a number
+abbrev pub region_checks : ℕ → MemoryRegion → List Check
+region_checks n r = number_checks n (const r.origin) (λ origin. number_checks n (const r.length) (λ length.
+    check (nat_lt (origin + length) (2 ^ 64)) (Overflow origin length)))
+
+-- the same of each
+abbrev pub all_region_checks : ℕ → List MemoryRegion → List Check
+all_region_checks n [] = []
+all_region_checks n (r ∷ rs) = region_checks n r ++ all_region_checks n rs
 
 -- ---- names
 
@@ -173,11 +191,34 @@ abbrev pub name_checks : (Name → Fault) → List Name → List Name → List C
 name_checks fault earlier [] = []
 name_checks fault earlier (x ∷ xs) = check (not (list_any (is_named x) earlier)) (fault x) ++ name_checks fault (earlier ++ x ∷ []) xs
 
+-- the region that a section names, if it names one, is among these
+abbrev pub region_check : List Name → Option Name → List Check
+region_check names None = []
+region_check names (Some x) = check (list_any (is_named x) names) (UnknownRegion x)
+
+-- the same of each section
+abbrev pub reference_checks : List Name → List Section → List Check
+reference_checks names [] = []
+reference_checks names (x ∷ xs) = region_check names x.region ++ reference_checks names xs
+
 -- ---- all checks
 
--- what is checked of a script alone: its places, then that no two sections have one name
-abbrev pub script_checks : List Command → List Check
-script_checks t = place_checks 0 (script_places t) ++ name_checks DuplicateSection [] (names_of (sections_of t))
+-- what is checked of the last MEMORY: the numbers of its regions
+abbrev pub memory_checks : MemoryAt → List Check
+memory_checks m = all_region_checks m.place m.regions
+
+-- what is checked of the names in a script: no two regions have one name, each section names one of them, if any, and no two
+-- sections have one name
+abbrev pub script_name_checks : List Command → List Check
+script_name_checks t = name_checks DuplicateName [] (region_names t)
+    ++ (reference_checks (region_names t) (sections_of t)
+    ++ name_checks DuplicateSection [] (names_of (sections_of t)))
+
+-- what is checked of a script alone: its places, then its memory regions, then its names
+abbrev pub script_checks : PlanOptions → List Command → List Check
+script_checks o t = place_checks o 0 (script_places t)
+    ++ (memory_checks (memory_of t)
+    ++ script_name_checks t)
 
 -- no two definitions that must not stand twice have one name
 abbrev pub symbol_name_checks : Case → List Check
@@ -186,7 +227,7 @@ symbol_name_checks c = name_checks DuplicateSymbol [] (entry_names (firm_entries
 -- the conditions, in the order in which they are looked at
 abbrev pub checks : Case → List Check
 checks c = table_checks c.inputs
-    ++ (script_checks c.commands
+    ++ (script_checks c.options c.commands
     ++ symbol_name_checks c)
 
 -- the fault of the first condition that fails

@@ -7,13 +7,13 @@ use Rattle.wild_value_spec.specs.Known.{Known}
 use Rattle.wild_value_spec.specs.Scope.{Scope}
 use Rattle.wild_value_spec.specs.Value.{assert_statement}
 use Rattle.wild_plan_spec.specs.declared.place.Where.{Where}
-use Rattle.wild_plan_spec.specs.Places.{Place, SetLocation, Wait, Open, Collect, Rows, Close, Discard, Idle, Unbuilt, Task, Assign, Provide, Locate, Check}
-use Rattle.wild_plan_spec.specs.Points.{task_point}
+use Rattle.wild_plan_spec.specs.Places.{Place, SetLocation, Wait, Open, Collect, Rows, Close, Discard, Idle, Memory, Headers, Format, Task, Assign, Provide, Locate, Check}
+use Rattle.wild_plan_spec.specs.Points.{condition_point}
 
 module _ (scope : Scope) (known : Known) where
   -- the condition of an ASSERT is not 0
   abbrev pub assert_holds : ℕ → Where → AssertCommand → Result (Unit {0}) Fault
-  assert_holds i w c = assert_statement scope i known c (task_point i w) >>= (λ x. Ok tt)
+  assert_holds i w c = assert_statement scope i known c (condition_point i w) >>= (λ x. Ok tt)
 
   -- where a task is a condition, it holds
   unfoldable pub task_holds : ℕ → Where → Task → Result (Unit {0}) Fault
@@ -32,7 +32,9 @@ module _ (scope : Scope) (known : Known) where
   place_holds i (Close s rest) = Ok tt
   place_holds i (Discard x) = Ok tt
   place_holds i Idle = Ok tt
-  place_holds i Unbuilt = Ok tt
+  place_holds i (Memory regions) = Ok tt
+  place_holds i (Headers headers) = Ok tt
+  place_holds i (Format format) = Ok tt
 
   -- in text order; the first place of the list has the number i
   abbrev pub conditions : ℕ → List Place → Result (Unit {0}) Fault

@@ -46,7 +46,7 @@ table_entries fates (s ∷ ss) = table_entry s (symbol_chunk fates s) ++ table_e
 
 -- the entry of an assignment at place i
 abbrev pub assigned_entry : ℕ → Place → List SymbolEntry
-assigned_entry i (Wait w (Assign name value)) = entry_of name (OfScript value (task_point i w))
+assigned_entry i (Wait w (Assign name value)) = entry_of name (OfScript value (task_point i w value))
 assigned_entry i p = []
 
 -- the assignments; the first place of the list has the number i
@@ -56,7 +56,7 @@ assigned_entries i (p ∷ ps) = assigned_entry i p ++ assigned_entries (i + 1) p
 
 -- the entry of a PROVIDE that stands here at place i
 abbrev pub provide_entry : ℕ → Where → ProvideSymbolDefinition → List SymbolEntry
-provide_entry i w d = entry_of d.name (OfScript d.value (task_point i w))
+provide_entry i w d = entry_of d.name (OfScript d.value (task_point i w d.value))
 
 -- the entry of a place, where it is a PROVIDE
 abbrev pub provided_entry : ℕ → Place → List SymbolEntry

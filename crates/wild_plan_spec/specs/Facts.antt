@@ -1,5 +1,5 @@
 -- What a script and its table say of each section, before any address is known.
-use Rattle.std.specs.Prelude.{ℕ, ◌+◌, ◌^◌, max, nat_lt, Bool, true, false, not, ◌&&◌, ◌||◌, List, [], ◌∷◌, Option, Some, None, slice_get, if◌then◌else◌, Ok, Err}
+use Rattle.std.specs.Prelude.{ℕ, ◌+◌, ◌^◌, max, nat_lt, Bool, true, false, not, ◌&&◌, ◌||◌, List, [], ◌∷◌, Option, Some, None, slice_get, if◌then◌else◌}
 use Rattle.std.specs.List.{list_any}
 use Rattle.std.specs.Option.{unwrap_or, option_map}
 use Rattle.wild_ids.specs.Alignment.{exponent_of}
@@ -10,7 +10,7 @@ use Rattle.wild_script_tree.specs.declared.tree.Command.{Command}
 use Rattle.wild_script_tree.specs.declared.tree.Section.{Section}
 use Rattle.wild_script_tree.specs.declared.tree.SectionAttributes.{SectionAttributes}
 use Rattle.wild_script_tree.specs.declared.tree.SectionAttributes.TheVariants as attribute
-use Rattle.wild_value_spec.specs.Const.{Constant, const}
+use Rattle.wild_value_spec.specs.Const.{const, number_in}
 use Rattle.wild_plan_spec.specs.declared.chunk.Kept.{Kept}
 use Rattle.wild_plan_spec.specs.declared.row.InputRow.{InputRow}
 use Rattle.wild_plan_spec.specs.declared.row.InputTable.{InputTable}
@@ -32,13 +32,10 @@ pub record Facts : Type 0 where
   pub start : Option Expression
   -- its load address, of the AT clause
   pub load : Option Expression
+  -- the name of its memory region
+  pub region : Option Name
 
 -- ---- clauses: a section of the script may have them, and an orphan has none
-
--- the number of a constant; what is none is refused before
-abbrev pub number_in : Constant → ℕ
-number_in (Ok n) = n
-number_in (Err f) = 0
 
 -- the alignment of an ALIGN clause, as an exponent, or else 0; what is none is refused before
 abbrev pub clause_alignment : Option Expression → ℕ
@@ -119,6 +116,7 @@ section_facts name x rows = record {
   fill = option_map (λ f. fill_number (number_in (const f.value))) (said (λ s. s.fill) x);
   start = said (λ s. s.start_address_expression) x;
   load = said (λ s. s.at_address) x;
+  region = said (λ s. s.region) x;
 }
 
 -- of sections of these names, by the sections of the script and the fate of each row; the first has the number s

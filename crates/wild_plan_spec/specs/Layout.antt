@@ -40,7 +40,7 @@ placed_section known s f = record {
   alignment = f.alignment;
   flags = f.flags;
   fill = f.fill;
-  region = None;
+  region = f.region;
   headers = [];
   counted = not f.floating;
 }

@@ -2,12 +2,12 @@ pub mod Names
 pub mod Statements
 pub mod Places
 pub mod Points
+pub mod Regions
 pub mod Rules
 pub mod Fates
 pub mod Orphans
 pub mod Chunks
 pub mod Order
-pub mod Built
 pub mod Definitions
 pub mod Facts
 pub mod Case

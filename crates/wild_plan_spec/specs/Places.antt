@@ -4,6 +4,9 @@ use Rattle.wild_expression_tree.specs.declared.tree.AssertCommand.{AssertCommand
 use Rattle.wild_expression_tree.specs.declared.tree.Expression.{Expression}
 use Rattle.wild_script_tree.specs.declared.tree.Command.{Command}
 use Rattle.wild_script_tree.specs.declared.tree.Command.TheVariants as command
+use Rattle.wild_script_tree.specs.declared.tree.MemoryRegion.{MemoryRegion}
+use Rattle.wild_script_tree.specs.declared.tree.OutputFormat.{OutputFormat}
+use Rattle.wild_script_tree.specs.declared.tree.Phdr.{Phdr}
 use Rattle.wild_script_tree.specs.declared.tree.ProvideSymbolDefinition.{ProvideSymbolDefinition}
 use Rattle.wild_script_tree.specs.declared.tree.Section.{Section}
 use Rattle.wild_script_tree.specs.declared.tree.SectionCommand.{SectionCommand}
@@ -46,8 +49,12 @@ pub data Place : Type 0 where
   Discard : Section → Place
   -- `/DISCARD/` ends, or what stands here does nothing
   Idle : Place
-  -- a command whose meaning is not built yet
-  Unbuilt : Place
+  -- memory regions, of which the last MEMORY has those that count
+  Memory : List MemoryRegion → Place
+  -- program headers
+  Headers : List Phdr → Place
+  -- the format of the output
+  Format : OutputFormat → Place
 
 -- a statement of section s, whose chunk, if it is a matcher, has this number
 abbrev pub content_place : ℕ → ℕ → ContentsCommand → Place
@@ -100,27 +107,27 @@ inner_places s (inner.SymbolAssignment a) = Wait Between (Assign a.name a.expr) 
 inner_places s (inner.Provide d) = Wait Between (Provide d) ∷ []
 inner_places s (inner.Assert c) = Wait Between (Check c) ∷ []
 
--- an outermost command other than SECTIONS
-abbrev pub outer_places : Command → List Place
-outer_places (command.SymbolDefinition name value) = Wait Outermost (Assign name value) ∷ []
-outer_places (command.SetLocation l) = Wait Outermost (Locate l.address) ∷ []
-outer_places (command.Provide d) = Wait Outermost (Provide d) ∷ []
-outer_places (command.Assert c) = Wait Outermost (Check c) ∷ []
-outer_places (command.Arg name) = Idle ∷ []
-outer_places (command.Group' shape cs) = Idle ∷ []
-outer_places (command.AsNeeded' shape cs) = Idle ∷ []
-outer_places command.Ignored = Idle ∷ []
-outer_places (command.Entry name) = Idle ∷ []
-outer_places (command.Version content) = Idle ∷ []
-outer_places (command.Memory regions) = Unbuilt ∷ []
-outer_places (command.Phdrs headers) = Unbuilt ∷ []
-outer_places (command.OutputFormat format) = Unbuilt ∷ []
-outer_places (command.Sections s) = []
+-- an outermost command other than SECTIONS, behind so many sections
+abbrev pub outer_places : ℕ → Command → List Place
+outer_places s (command.SymbolDefinition name value) = Wait (Outermost s) (Assign name value) ∷ []
+outer_places s (command.SetLocation l) = Wait (Outermost s) (Locate l.address) ∷ []
+outer_places s (command.Provide d) = Wait (Outermost s) (Provide d) ∷ []
+outer_places s (command.Assert c) = Wait (Outermost s) (Check c) ∷ []
+outer_places s (command.Arg name) = Idle ∷ []
+outer_places s (command.Group' shape cs) = Idle ∷ []
+outer_places s (command.AsNeeded' shape cs) = Idle ∷ []
+outer_places s command.Ignored = Idle ∷ []
+outer_places s (command.Entry name) = Idle ∷ []
+outer_places s (command.Version content) = Idle ∷ []
+outer_places s (command.Memory regions) = Memory regions ∷ []
+outer_places s (command.Phdrs headers) = Headers headers ∷ []
+outer_places s (command.OutputFormat format) = Format format ∷ []
+outer_places s (command.Sections cs) = []
 
--- the places of a statement, whose section, if it is one, has the number s
+-- the places of a statement behind s sections; its section, if it is one, has this number
 abbrev pub statement_places : ℕ → Statement → List Place
 statement_places s (Inner c) = inner_places s c
-statement_places s (Outer c) = outer_places c
+statement_places s (Outer c) = outer_places s c
 
 -- the number of the next section after a statement
 abbrev pub next_section : ℕ → Statement → ℕ

@@ -17,7 +17,7 @@ use Rattle.wild_plan_spec.specs.Layout.{Layout}
 use Rattle.wild_plan_spec.specs.Names.{Name}
 use Rattle.wild_plan_spec.specs.Orphans.{places_of}
 use Rattle.wild_plan_spec.specs.Places.{Place, SetLocation, Open, Wait, Assign, Provide, Check}
-use Rattle.wild_plan_spec.specs.Points.{location_point, start_point, load_point, task_point}
+use Rattle.wild_plan_spec.specs.Points.{location_point, start_point, load_point, task_point, condition_point}
 use Rattle.wild_plan_spec.specs.Scopes.{scope_of}
 use Rattle.wild_plan_spec.specs.Symbols.{is_at, script_symbol}
 
@@ -56,13 +56,13 @@ module _ (c : Case) (known : Known) (plan : Layout) where
   -- the symbol that place i defines is listed, and is what its expression is worth
   pub record SymbolSettles (i : ℕ) (w : Where) (name : Name) (e : Expression) (hidden : Bool) : Type 0 where
     pub address : ℕ
-    pub worth : IsWorth i (name ∷ []) e (task_point i w) address
+    pub worth : IsWorth i (name ∷ []) e (task_point i w e) address
     pub listed : IsListed (script_symbol w name hidden address) plan.symbols
 
   -- the condition of place i is not 0
   pub record ConditionSettles (i : ℕ) (w : Where) (command : AssertCommand) : Type 0 where
     pub value : Value
-    pub worth : assert_statement (scope_of c) i known command (task_point i w) ≡ Ok value
+    pub worth : assert_statement (scope_of c) i known command (condition_point i w) ≡ Ok value
     pub holds : value.number ≢ 0
 
   -- each start expression and each AT clause of a section, each `. =` in SECTIONS, each assignment with a name, each PROVIDE

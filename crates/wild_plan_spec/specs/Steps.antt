@@ -1,11 +1,14 @@
 -- What each place of a script does to what stands before it.
-use Rattle.std.specs.Prelude.{ℕ, ◌^◌, nat_lt, Bool, if◌then◌else◌, List, [], ◌∷◌, ◌++◌, Option, Some, None, Result, Ok, Err}
+use Rattle.std.specs.Prelude.{ℕ, ◌+◌, ◌^◌, nat_lt, Bool, true, false, not, ◌&&◌, ◌||◌, if◌then◌else◌, List, [], ◌∷◌, ◌++◌, map, slice_get, slice_set, Option, Some, None, Result, Ok, Err}
+use Rattle.std.specs.Option.{unwrap_or}
 use Rattle.wild_ids.specs.Alignment.{rounded_up}
 use Rattle.wild_names.specs.declared.fault.Fault.{Fault}
-use Rattle.wild_names.specs.declared.fault.Fault.TheVariants.{AlignOverflow, MovesBack, Overlap}
+use Rattle.wild_names.specs.declared.fault.Fault.TheVariants.{AlignOverflow, MovesBack, Overlap, RegionFull}
 use Rattle.wild_expression_tree.specs.declared.tree.Expression.{Expression}
+use Rattle.wild_value_spec.specs.declared.region.Region.{Region}
 use Rattle.wild_value_spec.specs.Answer.{◌>>=◌}
 use Rattle.wild_value_spec.specs.Known.{Known, Start, Load, End, Address, Dot, LoadDot, nothing, number_at, with_number}
+use Rattle.wild_value_spec.specs.Scope.{region_at}
 use Rattle.wild_value_spec.specs.Value.{sum_of, full_value}
 use Rattle.wild_plan_spec.specs.declared.chunk.Chunk.{Chunk}
 use Rattle.wild_plan_spec.specs.declared.chunk.ChunkRow.{ChunkRow}
@@ -14,14 +17,18 @@ use Rattle.wild_plan_spec.specs.declared.placed.PlacedLocation.{PlacedLocation}
 use Rattle.wild_plan_spec.specs.Chunks.{largest}
 use Rattle.wild_plan_spec.specs.Facts.{Facts}
 use Rattle.wild_plan_spec.specs.Ground.{Ground}
+use Rattle.wild_plan_spec.specs.Names.{or_empty}
 use Rattle.wild_plan_spec.specs.Overlaps.{lowest_sharing}
-use Rattle.wild_plan_spec.specs.Places.{Place, SetLocation, Wait, Open, Collect, Rows, Close, Discard, Idle, Unbuilt}
+use Rattle.wild_plan_spec.specs.Places.{Place, SetLocation, Wait, Open, Collect, Rows, Close, Discard, Idle, Memory, Headers, Format}
 use Rattle.wild_plan_spec.specs.Points.{location_point, start_point, load_point}
+use Rattle.wild_plan_spec.specs.Regions.{region_number}
 
 -- what stands before a place
 pub record State : Type 0 where
-  -- where the next section goes
+  -- where the next section goes that is in no region
   pub counter : ℕ
+  -- where the next section of each region goes, by the numbers of the regions
+  pub regions : List ℕ
   -- where the next row of the open section goes
   pub cursor : ℕ
   pub known : Known
@@ -51,6 +58,23 @@ unfoldable pub chunk_placed : List ChunkRow → State → Result State Fault
 chunk_placed rows st =
     up st.cursor (largest rows) >>= (λ n.
     rows_placed rows (record st { cursor = n }))
+
+-- ---- regions
+
+-- where the next section of this region goes, or of none
+abbrev pub counter_in : Option ℕ → State → ℕ
+counter_in None st = st.counter
+counter_in (Some r) st = unwrap_or (slice_get st.regions r) 0
+
+-- the counter of this region, if it is one, becomes n
+abbrev pub with_counter : Option ℕ → ℕ → List ℕ → List ℕ
+with_counter None n counters = counters
+with_counter (Some r) n counters = slice_set counters r n
+
+-- what goes from start up to end begins before the region, or ends behind it; in none it does not
+abbrev pub leaves : Option Region → ℕ → ℕ → Bool
+leaves None start end = false
+leaves (Some r) start end = nat_lt start r.origin || nat_lt (r.origin + r.length) end
 
 -- ---- sections
 
@@ -84,16 +108,21 @@ unfoldable pub dot_noted : ℕ → Place → State → State
 dot_noted i p st = record st { known = with_number (Dot i) (dot_before p st) st.known }
 
 module _ (ground : Ground) where
-  -- before the first place
+  -- before the first place: each region goes on from its origin
   abbrev pub first_state : State
-  first_state = record { counter = 0; cursor = 0; known = nothing; locations = [] }
+  first_state = record { counter = 0; regions = map (λ r. r.origin) ground.regions; cursor = 0; known = nothing; locations = [] }
+
+  -- the region of the section of this number
+  abbrev pub region_in : ℕ → Option ℕ
+  region_in s = region_number ground.region_names (ground.facts s).region
 
   -- ---- a section begins
 
-  -- it starts where its start expression says, else at 0 where it floats, and else at the next multiple of its alignment
+  -- it starts where its start expression says, else at 0 where it floats, and else at the next multiple of its alignment, in
+  -- its region
   abbrev pub start_by : ℕ → Facts → Option Expression → State → Result ℕ Fault
   start_by i f (Some e) st = full_value ground.scope i st.known [] e (start_point i)
-  start_by i f None st = if f.floating then Ok 0 else up st.counter f.alignment
+  start_by i f None st = if f.floating then Ok 0 else up (counter_in (region_number ground.region_names f.region) st) f.alignment
 
   -- where the section that place i opens starts
   unfoldable pub start_found : ℕ → Facts → State → Result ℕ Fault
@@ -133,10 +162,18 @@ module _ (ground : Ground) where
   abbrev pub is_floating : ℕ → Bool
   is_floating s = (ground.facts s).floating
 
-  -- it ends at the cursor, and so does the counter, unless it floats
+  -- it ends at the cursor
+  abbrev pub section_ended_at : ℕ → State → State
+  section_ended_at s st = record st { known = with_number (End s) st.cursor st.known }
+
+  -- where it does not float, what comes next goes on from there, in its region too
+  abbrev pub section_ended_by : Bool → ℕ → State → State
+  section_ended_by true s st = section_ended_at s st
+  section_ended_by false s st = record (section_ended_at s st) { counter = st.cursor; regions = with_counter (region_in s) st.cursor st.regions }
+
+  -- it ends
   unfoldable pub section_ended : ℕ → State → Result State Fault
-  section_ended s st =
-      Ok (record st { counter = if is_floating s then st.counter else st.cursor; known = with_number (End s) st.cursor st.known })
+  section_ended s st = Ok (section_ended_by (is_floating s) s st)
 
   -- it ends, unless it shares an address with this one
   abbrev pub section_closed_by : ℕ → Option ℕ → State → Result State Fault
@@ -151,13 +188,22 @@ module _ (ground : Ground) where
   unfoldable pub section_ended_alone : ℕ → State → Result State Fault
   section_ended_alone s st = section_closed_by s (overlapped s st) st
 
+  -- it leaves its region, unless it floats
+  unfoldable pub leaves_region : ℕ → State → Bool
+  leaves_region s st = not (is_floating s) && leaves (region_at ground.regions (region_in s)) (number_at st.known (Start s)) st.cursor
+
+  -- it ends, unless it leaves its region, or shares an address with an earlier one
+  unfoldable pub section_ended_inside : ℕ → State → Result State Fault
+  section_ended_inside s st =
+      if leaves_region s st then Err (RegionFull (or_empty (ground.facts s).region) (ground.facts s).name) else section_ended_alone s st
+
   -- the rows of the rest are placed, and the section ends
   unfoldable pub section_ended_after : List ChunkRow → ℕ → State → Result State Fault
-  section_ended_after rest s st = chunk_placed rest st >>= section_ended_alone s
+  section_ended_after rest s st = chunk_placed rest st >>= section_ended_inside s
 
   -- a section ends, after its rest, if it has one
   unfoldable pub section_closed : ℕ → Option Chunk → State → Result State Fault
-  section_closed s None st = section_ended_alone s st
+  section_closed s None st = section_ended_inside s st
   section_closed s (Some q) st = section_ended_after (ground.rows q) s st
 
   -- ---- places
@@ -179,7 +225,9 @@ module _ (ground : Ground) where
   effect i (Close s rest) st = section_closed s rest st
   effect i (Discard x) st = Ok st
   effect i Idle st = Ok st
-  effect i Unbuilt st = Ok st
+  effect i (Memory regions) st = Ok st
+  effect i (Headers headers) st = Ok st
+  effect i (Format format) st = Ok st
 
   -- what stands after place i, or its refusal
   unfoldable pub step : ℕ → Place → State → Result State Fault

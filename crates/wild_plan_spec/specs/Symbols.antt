@@ -15,7 +15,7 @@ use Rattle.wild_plan_spec.specs.declared.place.Where.{Where}
 use Rattle.wild_plan_spec.specs.declared.row.SymbolRow.{SymbolRow}
 use Rattle.wild_plan_spec.specs.Definitions.{symbol_chunk}
 use Rattle.wild_plan_spec.specs.Names.{Name}
-use Rattle.wild_plan_spec.specs.Places.{Place, SetLocation, Wait, Open, Collect, Rows, Close, Discard, Idle, Unbuilt, Task, Assign, Provide, Locate, Check}
+use Rattle.wild_plan_spec.specs.Places.{Place, SetLocation, Wait, Open, Collect, Rows, Close, Discard, Idle, Memory, Headers, Format, Task, Assign, Provide, Locate, Check}
 use Rattle.wild_plan_spec.specs.Points.{holder, task_point}
 
 -- ---- of the table
@@ -44,12 +44,12 @@ is_at i d = false
 module _ (scope : Scope) (known : Known) where
   -- an expression has a value, and nothing is listed
   unfoldable pub unlisted : ℕ → Where → Expression → Result (Option PlacedSymbol) Fault
-  unlisted i w e = full_value scope i known [] e (task_point i w) >>= (λ n. Ok None)
+  unlisted i w e = full_value scope i known [] e (task_point i w e) >>= (λ n. Ok None)
 
   -- a symbol is listed with its value, which must not ask for itself
   unfoldable pub listed_symbol : ℕ → Where → Name → Expression → Bool → Result (Option PlacedSymbol) Fault
   listed_symbol i w name e hidden =
-      full_value scope i known (name ∷ []) e (task_point i w) >>= (λ n. Ok (Some (script_symbol w name hidden n)))
+      full_value scope i known (name ∷ []) e (task_point i w e) >>= (λ n. Ok (Some (script_symbol w name hidden n)))
 
   -- an empty name is not listed
   abbrev pub assignment_symbol : ℕ → Where → Name → Expression → Result (Option PlacedSymbol) Fault
@@ -77,7 +77,9 @@ module _ (scope : Scope) (known : Known) where
   place_symbol i (Close s rest) = Ok None
   place_symbol i (Discard x) = Ok None
   place_symbol i Idle = Ok None
-  place_symbol i Unbuilt = Ok None
+  place_symbol i (Memory regions) = Ok None
+  place_symbol i (Headers headers) = Ok None
+  place_symbol i (Format format) = Ok None
 
   -- those of the places, in text order; the first place of the list has the number i
   abbrev pub symbols : ℕ → List Place → Result (List PlacedSymbol) Fault

@@ -3,8 +3,8 @@
 /// Where a statement stands.
 #[derive(Clone, Copy, Debug, PartialEq, Eq)]
 pub enum Where {
-    /// Outside of SECTIONS.
-    Outermost,
+    /// Outside of SECTIONS, behind so many sections.
+    Outermost(usize),
     /// In SECTIONS, in no section.
     Between,
     /// In the contents of the section of this number.
