@@ -1,15 +1,14 @@
 -- What the parts of a script and a table are.
-use Rattle.std.specs.Prelude.{◌≡◌, ◌-◌, ◌++◌, List, [], length}
-use Rattle.wild_names.specs.declared.fault.Fault.TheVariants.{DuplicateName, DuplicateSection}
+use Rattle.std.specs.Prelude.{◌≡◌, ◌-◌, ◌++◌, List, length}
 use Rattle.wild_script_tree.specs.declared.tree.Command.{Command}
 use Rattle.wild_script_tree.specs.declared.tree.Section.{Section}
 use Rattle.wild_plan_spec.specs.declared.options.PlanOptions.{PlanOptions}
 use Rattle.wild_plan_spec.specs.declared.row.InputRow.{InputRow}
 use Rattle.wild_plan_spec.specs.declared.row.InputTable.{InputTable}
-use Rattle.wild_plan_spec.specs.Checks.{Check, memory_checks, name_checks, place_checks, reference_checks}
+use Rattle.wild_plan_spec.specs.Checks.{Check, memory_checks, place_checks, script_name_checks}
 use Rattle.wild_plan_spec.specs.Statements.{sections_of}
 use Rattle.wild_plan_spec.specs.Rules.{Rule}
-use Rattle.wild_plan_spec.specs.Fates.{names_of, orphans, names_asked, all_fates, section_names, fates_of}
+use Rattle.wild_plan_spec.specs.Fates.{orphans, names_asked, all_fates, section_names, fates_of}
 use Rattle.wild_plan_spec.specs.Names.{Name}
 use Rattle.wild_plan_spec.specs.Places.{Place, script_places}
 use Rattle.wild_plan_spec.specs.Orphans.{places_of}
@@ -32,17 +31,11 @@ pub record IsParts (t : List Command) (parts : Parts) : Type 0 where
 abbrev pub memory_in : List Place → MemoryAt
 memory_in places = last_or no_memory (memories 0 places)
 
--- what is checked of names, where regions have these
-abbrev pub names_checked : List Name → List Section → List Check
-names_checked regions sections = name_checks DuplicateName [] regions
-    ++ (reference_checks regions sections
-    ++ name_checks DuplicateSection [] (names_of sections))
-
 -- what is checked of these places and sections
-abbrev pub parts_checked : PlanOptions → List Place → List Section → List Check
-parts_checked options places sections = place_checks options 0 places
+abbrev pub parts_checks : PlanOptions → List Place → List Section → List Check
+parts_checks options places sections = place_checks options 0 places
     ++ (memory_checks (memory_in places)
-    ++ names_checked (names_in (memory_in places).regions) sections)
+    ++ script_name_checks (names_in (memory_in places).regions) sections)
 
 -- where rows go by these rules, with orphans after these places and these names, among these regions
 pub record AreFatesBy (parts : Parts) (regions : Regions) (rules : List Rule) (own : List Name) (rows : List InputRow) (script_fates : ScriptFates) : Type 0 where

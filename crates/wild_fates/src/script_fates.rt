@@ -2,12 +2,12 @@
 
 ghost use Rattle.std.specs.Prelude.{◌≡◌, ◌∷◌, ◌++◌, [], IfOk, map};
 ghost use Rattle.wild_names.specs.declared.fault.Fault.TheVariants.{DuplicateSection};
-ghost use Rattle.wild_plan_spec.specs.Checks.{name_checks, script_checks, failing};
+ghost use Rattle.wild_plan_spec.specs.Checks.{name_checks, script_checks, script_name_checks, failing};
 ghost use Rattle.wild_plan_spec.specs.Fates.{names_of};
 ghost use Rattle.wild_plan_spec.specs.Regions.{names_in, region_of};
 ghost use Rattle.wild_plan_spec.specs.Rules.{rules_in};
 ghost use Rattle.wild_fates.specs.Passes.{Passes, repeated};
-ghost use Rattle.wild_fates.specs.Parts.{IsParts, AreFatesBy, AreFates, memory_in, names_checked, parts_checked};
+ghost use Rattle.wild_fates.specs.Parts.{IsParts, AreFatesBy, AreFates, memory_in, parts_checks};
 ghost use Rattle.wild_fates.specs.Targets.{targets};
 ghost use Rattle.wild_fates.specs.Shown.{shown_places};
 
@@ -111,7 +111,7 @@ fn check_names<'a>(
 ) -> Result<ScriptNames<'a>, Fault>
     ensures regions { IfOk result (λ names. names.regions ≡ names_in regions.now) }
     ensures own { IfOk result (λ names. names.own ≡ names_of (targets sections.now)) }
-    ensures passes { Passes (failing (names_checked (names_in regions.now) (targets sections.now))) result }
+    ensures passes { Passes (failing (script_name_checks (names_in regions.now) (targets sections.now))) result }
 {
     let numbers = number_regions(alloc, regions)?;
     check_references(alloc, &numbers, sections)?;
@@ -133,7 +133,7 @@ fn check_script<'a>(
     ensures regions { IfOk result (λ checked. checked.regions.regions ≡ map region_of (memory_in (shown_places parts.now.places)).regions) }
     ensures region_names { IfOk result (λ checked. checked.regions.names ≡ names_in (memory_in (shown_places parts.now.places)).regions) }
     ensures own { IfOk result (λ checked. checked.own ≡ names_of (targets parts.now.sections)) }
-    ensures passes { Passes (failing (parts_checked options.now (shown_places parts.now.places) (targets parts.now.sections))) result }
+    ensures passes { Passes (failing (parts_checks options.now (shown_places parts.now.places) (targets parts.now.sections))) result }
 {
     let places = parts.places.as_slice();
     let rules = find_rules(alloc, options, places)?;

@@ -4,9 +4,9 @@ use Rattle.std.specs.Option.{option_map, option_copied}
 use Rattle.wild_names.specs.declared.input_flags.InputFlags.{InputFlags}
 use Rattle.wild_script_tree.specs.declared.tree.Section.{Section}
 use Rattle.wild_script_tree.specs.declared.tree.SectionAttributes.{SectionAttributes}
-use Rattle.wild_value_spec.specs.Const.{const}
+use Rattle.wild_value_spec.specs.Const.{const, number_in}
 use Rattle.wild_plan_spec.specs.Facts as spec
-use Rattle.wild_plan_spec.specs.Facts.{bit, clause_alignment, fill_number, floats, is_noload, is_readonly, number_in, said}
+use Rattle.wild_plan_spec.specs.Facts.{bit, clause_alignment, fill_number, floats, is_noload, is_readonly, said}
 use Rattle.wild_plan_spec.specs.Names.{Name}
 use Rattle.wild_plan.specs.declared.facts.Facts.{Facts}
 use Rattle.wild_plan.specs.declared.traits.Traits.{Traits}
@@ -21,6 +21,7 @@ shown_facts f = record {
   fill = f.fill;
   start = option_copied f.start;
   load = option_copied f.load;
+  region = option_copied f.region;
 }
 
 -- the same of each
@@ -64,6 +65,7 @@ facts_by name x traits = record {
   fill = option_map (λ f. fill_number (number_in (const f.value))) (said (λ s. s.fill) x);
   start = said (λ s. s.start_address_expression) x;
   load = said (λ s. s.at_address) x;
+  region = said (λ s. s.region) x;
 }
 
 -- of sections of these names; the first has the number s, and traits has the traits of each

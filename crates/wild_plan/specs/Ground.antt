@@ -8,4 +8,4 @@ use Rattle.wild_plan.specs.Facts.{shown_or_none}
 
 -- the ground, without that its parts are borrowed
 abbrev pub shown_ground : Ground → spec.Ground
-shown_ground g = record { scope = scope_of g.scope; rows = rows_at g.chunks.now; facts = λ s. shown_or_none (slice_get g.facts.now s) }
+shown_ground g = record { scope = scope_of g.scope; rows = rows_at g.chunks.now; facts = λ s. shown_or_none (slice_get g.facts.now s); region_names = g.scope.region_numbers.now; regions = g.scope.regions.now }

@@ -8,7 +8,7 @@ use Rattle.wild_eval.specs.Addresses.{known_of}
 
 -- what stands before the next place
 abbrev pub state_of : Walk → State
-state_of w = record { counter = w.counter; cursor = w.cursor; known = known_of w.addresses; locations = w.locations }
+state_of w = record { counter = w.counter; regions = w.regions.items; cursor = w.cursor; known = known_of w.addresses; locations = w.locations }
 
 -- the walk has come where the answer says, or there is its refusal, unless memory ran out
 abbrev pub Moves : {X : Type 0} → Result X Fault → Walk → Result State Fault → Type 0

@@ -116,7 +116,7 @@ pub fn check<'a>(alloc: Global, case: &Case<'a>) -> Result<Definitions<'a>, Faul
     ensures failing { IfErr result (IsWanted (failing (checks (shown_case case.now)))) }
 {
     check_table(case.inputs)?;
-    let script_fates = decide_fates(alloc, case.commands, case.inputs)?;
+    let script_fates = decide_fates(alloc, case.options, case.commands, case.inputs)?;
     let fates = script_fates.fates.as_slice();
     let places = script_fates.places.as_slice();
     let symbols = case.inputs.symbols.as_slice();

@@ -105,7 +105,7 @@ fn push_assigned_entry<'a>(
 {
     match *place {
         Place::Wait(stand, Task::Assign(name, value)) => {
-            let point = task_point(index, stand);
+            let point = task_point(index, stand, value);
             push_named(entries, name, Definition::OfScript { value, point })
         }
         _ => Ok(()),
@@ -129,7 +129,8 @@ fn push_provide_entry<'a>(
         return Ok(());
     }
     names.push(alloc, &provide.name)?;
-    let (value, point) = (&provide.value, task_point(index, stand));
+    let value = &provide.value;
+    let point = task_point(index, stand, value);
     let definition = Definition::OfScript { value, point };
     push(
         entries,

@@ -10,7 +10,7 @@ ghost use Rattle.wild_value_spec.specs.Answer.{Gives, Returns};
 ghost use Rattle.wild_value_spec.specs.Value.{full_value};
 
 use crate::ground::Ground;
-use crate::points::task_point;
+use crate::points::{condition_point, task_point};
 use sqlite_items::Items;
 use wild_base::Fault;
 use wild_eval::{Addresses, Evaluator, Path};
@@ -34,7 +34,7 @@ impl End<'_> {
         stand: Where,
         expression: &Expression,
     ) -> Result<u64, Fault>
-        ensures { Gives result (full_value (scope self.now) place (known self.now) (path_of path.now) expression.now (task_point place stand)) }
+        ensures { Gives result (full_value (scope self.now) place (known self.now) (path_of path.now) expression.now (task_point place stand expression.now)) }
     {
         let evaluator = Evaluator {
             alloc: self.ground.alloc,
@@ -42,7 +42,7 @@ impl End<'_> {
             addresses: self.addresses,
             statement: place,
         };
-        evaluator.full(path, expression, task_point(place, stand))
+        evaluator.full(path, expression, task_point(place, stand, expression))
     }
 
     fn assert_holds(&self, place: usize, stand: Where, command: &AssertCommand) -> Result<(), Fault>
@@ -54,7 +54,7 @@ impl End<'_> {
             addresses: self.addresses,
             statement: place,
         };
-        evaluator.check(command, task_point(place, stand))?;
+        evaluator.check(command, condition_point(place, stand))?;
         Ok(())
     }
 

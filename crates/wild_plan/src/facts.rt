@@ -3,7 +3,7 @@
 ghost use Rattle.std.specs.Prelude.{◌≡◌, ◌∷◌, ◌++◌, [], OnOk, IfOk, Some, None, length, slice_get, not, ◌&&◌, ◌||◌};
 ghost use Rattle.std.specs.Option.{option_copied, option_map};
 ghost use Rattle.wild_plan_spec.specs.Facts as spec;
-ghost use Rattle.wild_value_spec.specs.Const.{const};
+ghost use Rattle.wild_value_spec.specs.Const.{const, number_in};
 ghost use Rattle.wild_fates.specs.Targets.{targets};
 ghost use Rattle.wild_plan.specs.Facts.{alignments_in, facts_by, facts_with, flags_by, floating_by, shown_all, shown_facts};
 ghost use Rattle.wild_plan.specs.Traits.{traits_at};
@@ -31,13 +31,15 @@ pub struct Facts<'a> {
     pub start: Option<&'a Expression>,
     /// Its load address, of the AT clause.
     pub load: Option<&'a Expression>,
+    /// The name of its memory region.
+    pub region: Option<&'a Name>,
 }
 
 // ---- clauses
 
 // The number of a constant, or 0; what is none is refused before.
 fn number_in(expression: &Expression) -> u64
-    ensures { result ≡ spec.number_in (const expression.now) }
+    ensures { result ≡ number_in (const expression.now) }
 {
     match evaluate_const(expression) {
         Ok(number) => number,
@@ -60,7 +62,7 @@ fn clause_alignment(clause: Option<&Expression>) -> Alignment
 
 // A fill of four bytes, or 0; what does not fit in them is refused before.
 fn fill_number(fill: &Fill) -> u32
-    ensures { result ≡ spec.fill_number (spec.number_in (const fill.now.value)) }
+    ensures { result ≡ spec.fill_number (number_in (const fill.now.value)) }
 {
     match u32::try_from(number_in(&fill.value)) {
         Ok(number) => number,
@@ -69,7 +71,7 @@ fn fill_number(fill: &Fill) -> u32
 }
 
 fn fill_of(fill: Option<&Fill>) -> Option<u32>
-    ensures { result ≡ option_map (λ f. spec.fill_number (spec.number_in (const f.value))) (option_copied fill.entry) }
+    ensures { result ≡ option_map (λ f. spec.fill_number (number_in (const f.value))) (option_copied fill.entry) }
 {
     match fill {
         Some(fill) => Some(fill_number(fill)),
@@ -158,6 +160,7 @@ fn script_facts<'a>(name: &'a Name, section: &'a Section, traits: &Traits) -> Fa
     let fill = fill_of(section.fill.as_ref());
     let start = section.start_address_expression.as_ref();
     let load = section.at_address.as_ref();
+    let region = section.region.as_ref();
     Facts {
         name,
         alignment,
@@ -166,6 +169,7 @@ fn script_facts<'a>(name: &'a Name, section: &'a Section, traits: &Traits) -> Fa
         fill,
         start,
         load,
+        region,
     }
 }
 
@@ -183,6 +187,7 @@ fn orphan_facts<'a>(name: &'a Name, traits: &Traits) -> Facts<'a>
         fill: None,
         start: None,
         load: None,
+        region: None,
     }
 }
 

@@ -4,7 +4,9 @@ ghost use Rattle.std.specs.Prelude.{◌≡◌, IfOk};
 ghost use Rattle.wild_plan_spec.specs.Facts.{facts_of};
 ghost use Rattle.std.specs.Option.{option_copied};
 ghost use Rattle.wild_plan_spec.specs.Ground.{ground_of};
-ghost use Rattle.wild_plan_spec.specs.Steps.{is_floating};
+ghost use Rattle.wild_plan_spec.specs.Names.{or_empty};
+ghost use Rattle.wild_plan_spec.specs.Steps.{is_floating, region_in};
+ghost use Rattle.wild_value_spec.specs.Scope.{region_at};
 ghost use Rattle.wild_plan.specs.Basis.{IsBasis};
 ghost use Rattle.wild_plan.specs.Case.{shown_case};
 ghost use Rattle.wild_plan.specs.Checked.{IsChecked};
@@ -18,16 +20,17 @@ use crate::definitions::Definitions;
 use crate::facts::{Facts, alignments_in, find_facts};
 use sqlite_items::Items;
 use std::alloc::Global;
-use wild_base::{Alignment, NoMemory};
+use wild_base::{Alignment, Name, NoMemory};
 use wild_eval::Scope;
 use wild_script_tree::Expression;
+use wild_value_spec::Region;
 
 /// What a script and its table say, beside what becomes known from place to place. The walk, the end and the lists all
 /// read it.
 #[derive(Clone, Copy)]
 pub struct Ground<'a> {
     pub alloc: Global,
-    /// The sections and the symbols, as expressions ask for them.
+    /// The sections, the symbols and the memory regions, as expressions ask for them.
     pub scope: Scope<'a>,
     /// What is said of each section.
     pub facts: &'a [Facts<'a>],
@@ -72,6 +75,49 @@ impl<'a> Ground<'a> {
     {
         match self.facts.get(section) {
             Some(facts) => facts.load,
+            None => None,
+        }
+    }
+
+    // The name of the memory region of a section, where it is in one.
+    fn named_region(&self, section: usize) -> Option<&'a Name>
+        ensures { option_copied result ≡ ((shown_ground self.now).facts section).region }
+    {
+        match self.facts.get(section) {
+            Some(facts) => facts.region,
+            None => None,
+        }
+    }
+
+    /// The name of the memory region of a section, or no bytes where it is in none.
+    pub fn region_name(&self, section: usize) -> &'a [u8]
+        ensures { result.now ≡ or_empty ((shown_ground self.now).facts section).region }
+    {
+        match self.named_region(section) {
+            Some(name) => name.bytes(),
+            None => {
+                let none: &[u8] = &[];
+                none
+            }
+        }
+    }
+
+    /// The number of the memory region of a section, where it is in one.
+    pub fn region_number(&self, section: usize) -> Option<usize>
+        ensures { result ≡ region_in (shown_ground self.now) section }
+    {
+        match self.named_region(section) {
+            Some(name) => self.scope.region_numbers.get(name),
+            None => None,
+        }
+    }
+
+    /// Where the memory region of a section stands, where it is in one.
+    pub fn region(&self, section: usize) -> Option<Region>
+        ensures { result ≡ region_at (shown_ground self.now).regions (region_in (shown_ground self.now) section) }
+    {
+        match self.region_number(section) {
+            Some(number) => self.scope.regions.get(number).copied(),
             None => None,
         }
     }
@@ -137,6 +183,7 @@ pub fn ground_on<'a, 'b>(
     ensures facts { shown_all result.facts.now ≡ facts_of case.now.commands.now case.now.inputs.now }
 {
     let names = &definitions.script_fates.names;
+    let regions = &definitions.script_fates.regions;
     let scope = Scope {
         sections: names.as_slice(),
         section_numbers: names.numbers(),
@@ -144,6 +191,10 @@ pub fn ground_on<'a, 'b>(
         symbols: &definitions.names,
         entries: definitions.entries.as_slice(),
         script: case.script,
+        region_numbers: &regions.names,
+        regions: regions.regions.as_slice(),
+        segment_starts: case.options.segment_starts,
+        header_size: case.options.header_size,
     };
     Ground {
         alloc,

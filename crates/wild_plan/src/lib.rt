@@ -1,6 +1,7 @@
 //! Placement plans: where a script puts each input section of a table.
 #![tactic(auto)]
 
+mod asking;
 mod case;
 mod check;
 mod chunks;

@@ -1,6 +1,7 @@
 //! What a plan lists, once all places are laid out.
 
 ghost use Rattle.std.specs.Prelude.{◌≡◌, IfOk};
+ghost use Rattle.std.specs.Option.{option_copied};
 ghost use Rattle.wild_plan_spec.specs.Layout.{placed_input, placed_inputs, placed_section, placed_sections, row_names};
 ghost use Rattle.wild_plan.specs.Facts.{shown_all, shown_facts};
 ghost use Rattle.wild_eval.specs.Addresses.{known_of};
@@ -8,9 +9,19 @@ ghost use Rattle.wild_eval.specs.Addresses.{known_of};
 use crate::facts::Facts;
 use sqlite_items::Items;
 use std::alloc::Global;
-use wild_base::NoMemory;
+use wild_base::{Name, NoMemory};
 use wild_eval::Addresses;
 use wild_plan_spec::{InputRow, Kept, Names, PlacedInput, PlacedSection, RowNames};
+
+// A copy of the name of a region, where there is one.
+fn region_of(alloc: Global, region: Option<&Name>) -> Result<Option<Name>, NoMemory>
+    ensures { IfOk result (λ name. name ≡ option_copied region.entry) }
+{
+    match region {
+        Some(name) => Ok(Some(name.copy(alloc)?)),
+        None => Ok(None),
+    }
+}
 
 // The section of this number.
 fn placed_section(
@@ -22,6 +33,7 @@ fn placed_section(
     ensures { IfOk result (λ placed. placed ≡ placed_section (known_of addresses.now) number (shown_facts facts.now)) }
 {
     let name = facts.name.copy(alloc)?;
+    let region = region_of(alloc, facts.region)?;
     let start = addresses.start(number);
     Ok(PlacedSection {
         name,
@@ -31,7 +43,7 @@ fn placed_section(
         alignment: facts.alignment,
         flags: facts.flags,
         fill: facts.fill,
-        region: None,
+        region,
         headers: Names::new(alloc),
         counted: !facts.floating,
     })

@@ -3,15 +3,29 @@
 ghost use Rattle.std.specs.Prelude.{◌≡◌};
 ghost use Rattle.wild_plan_spec.specs.Points as spec;
 
+use crate::asking::asks_segment;
 use wild_plan_spec::Where;
+use wild_script_tree::Expression;
 use wild_value_spec::{DotSource, Point};
 
-// What `.` is in a statement that stands here: outside of SECTIONS it is 0.
-fn dot_at(stand: Where) -> DotSource
-    ensures { result ≡ spec.dot_at stand }
+// `.` behind so many sections, outside of SECTIONS, where it is not 0: the end of the last of them, if there is one.
+fn dot_behind(sections: usize) -> DotSource
+    ensures { result ≡ spec.dot_behind sections }
+{
+    if sections == 0 {
+        DotSource::Zero
+    } else {
+        DotSource::OfEnd(sections - 1)
+    }
+}
+
+// What `.` is in a statement that stands here: outside of SECTIONS it is 0, unless the start of a segment is asked for.
+fn dot_at(stand: Where, asks: bool) -> DotSource
+    ensures { result ≡ spec.dot_at stand asks }
 {
     match stand {
-        Where::Outermost => DotSource::Zero,
+        Where::Outermost(sections) if asks => dot_behind(sections),
+        Where::Outermost(_) => DotSource::Zero,
         Where::Between | Where::Inside(_) => DotSource::OfPlace,
     }
 }
@@ -21,18 +35,29 @@ pub fn holder(stand: Where) -> Option<usize>
     ensures { result ≡ spec.holder stand }
 {
     match stand {
-        Where::Outermost | Where::Between => None,
+        Where::Outermost(_) | Where::Between => None,
         Where::Inside(section) => Some(section),
     }
 }
 
-/// The point of a task that stands here, at a place.
-pub fn task_point(place: usize, stand: Where) -> Point
-    ensures { result ≡ spec.task_point place stand }
+/// The point of the expression of a symbol, or of `. =` outside of SECTIONS, that stands here at a place.
+pub fn task_point(place: usize, stand: Where, expression: &Expression) -> Point
+    ensures { result ≡ spec.task_point place stand expression.now }
 {
     Point {
         place,
-        dot: dot_at(stand),
+        dot: dot_at(stand, asks_segment(expression)),
+        section: holder(stand),
+    }
+}
+
+/// The point of the condition of an ASSERT that stands here at a place.
+pub fn condition_point(place: usize, stand: Where) -> Point
+    ensures { result ≡ spec.condition_point place stand }
+{
+    Point {
+        place,
+        dot: dot_at(stand, false),
         section: holder(stand),
     }
 }

@@ -1,12 +1,13 @@
 //! The walk over the places of a script, which finds each address.
 
-ghost use Rattle.std.specs.Prelude.{◌≡◌, ◌⊎◌, [], length, IfOk, IfErr, OnOk};
+ghost use Rattle.std.specs.Prelude.{◌≡◌, ◌⊎◌, ◌+◌, nat_lt, [], length, map, IfOk, IfErr, OnOk};
 ghost use Rattle.wild_names.specs.declared.fault.Fault.TheVariants as fault;
 ghost use Rattle.wild_eval.specs.Addresses.{known_of};
 ghost use Rattle.wild_value_spec.specs.Answer.{Gives, Returns};
 ghost use Rattle.wild_value_spec.specs.Value.{full_value};
 ghost use Rattle.wild_plan_spec.specs.Chunks.{largest};
-ghost use Rattle.wild_plan_spec.specs.Steps.{first_state, up, dot_before, dot_noted, start_found, section_started, load_found, section_loaded, section_begun, section_opened, row_placed, rows_placed, chunk_placed, chunk_collected, cursor_moved, cursor_set, section_ended, overlapped, section_ended_alone, section_ended_after, section_closed, counter_set, effect, step};
+ghost use Rattle.wild_plan_spec.specs.Names.{or_empty};
+ghost use Rattle.wild_plan_spec.specs.Steps.{first_state, up, counter_in, with_counter, leaves, leaves_region, section_ended_inside, dot_before, dot_noted, start_found, section_started, load_found, section_loaded, section_begun, section_opened, row_placed, rows_placed, chunk_placed, chunk_collected, cursor_moved, cursor_set, section_ended, overlapped, section_ended_alone, section_ended_after, section_closed, counter_set, effect, step};
 ghost use Rattle.wild_plan_spec.specs.Walk.{Stands, Refuses};
 ghost use Rattle.wild_plan.specs.Ground.{shown_ground};
 ghost use Rattle.wild_plan.specs.Moves.{Moves, state_of};
@@ -22,13 +23,15 @@ use wild_eval::{Addresses, Evaluator, Path, sum};
 use wild_fates::Place;
 use wild_plan_spec::{Chunk, ChunkRow, PlacedLocation, Where};
 use wild_script_tree::Expression;
-use wild_value_spec::Point;
+use wild_value_spec::{Point, Region};
 
 /// What stands before a place.
 #[derive(Drop)]
 pub struct Walk {
-    /// Where the next section goes.
+    /// Where the next section goes that is in no region.
     counter: u64,
+    /// Where the next section of each region goes, by the numbers of the regions.
+    regions: Vec<u64>,
     /// Where the next row of the open section goes.
     cursor: u64,
     pub addresses: Addresses,
@@ -70,16 +73,69 @@ fn overlap(ground: &Ground<'_>, first: usize, second: usize) -> Result<Fault, No
     })
 }
 
+/// The fault of a section that is not in its region.
+fn region_full(ground: &Ground<'_>, section: usize) -> Result<Fault, NoMemory>
+    ensures { IfOk result (λ f. f ≡ fault.RegionFull (or_empty ((shown_ground ground.now).facts section).region) ((shown_ground ground.now).facts section).name) }
+{
+    Ok(Fault::RegionFull {
+        region: Name::new(ground.alloc, ground.region_name(section))?,
+        section: Name::new(ground.alloc, ground.section_name(section))?,
+    })
+}
+
+/// Where the regions begin.
+fn origins(alloc: Global, regions: &[Region]) -> Result<Vec<u64>, AllocError>
+    ensures { IfOk result (λ origins. origins.items ≡ map (λ r. r.origin) regions.now) }
+{
+    let mut origins = Vec::new(alloc);
+    for region in regions {
+        origins.push(region.origin)?;
+    }
+    Ok(origins)
+}
+
+/// The counter of this region, if it is one, becomes this number.
+fn set_region_counter(counters: &mut Vec<u64>, region: Option<usize>, number: u64)
+    ensures { counters.new.items ≡ with_counter region number counters.old.items }
+{
+    if let Some(region) = region {
+        if region < counters.len() {
+            counters[region] = number;
+        }
+    }
+}
+
+/// Whether an end is behind a region.
+fn is_behind(region: Region, end: u64) -> bool
+    ensures { result ≡ nat_lt (region.origin + region.length) end }
+{
+    match region.origin.checked_add(region.length) {
+        Some(last) => last < end,
+        None => false,
+    }
+}
+
+/// What goes from start up to end begins before the region, or ends behind it.
+fn leaves(region: Option<Region>, start: u64, end: u64) -> bool
+    ensures { result ≡ leaves region start end }
+{
+    match region {
+        None => false,
+        Some(region) => start < region.origin || is_behind(region, end),
+    }
+}
+
 impl Walk {
-    fn new(ground: &Ground<'_>) -> Walk
-        ensures { state_of result ≡ first_state (shown_ground ground.now) }
+    fn new(ground: &Ground<'_>) -> Result<Walk, AllocError>
+        ensures { IfOk result (λ walk. state_of walk ≡ first_state (shown_ground ground.now)) }
     {
-        Walk {
+        Ok(Walk {
             counter: 0,
+            regions: origins(ground.alloc, ground.scope.regions)?,
             cursor: 0,
             addresses: Addresses::new(ground.alloc),
             locations: Items::new(ground.alloc),
-        }
+        })
     }
 
     // The number that an expression of this place stands for at a point, over what is known.
@@ -101,9 +157,23 @@ impl Walk {
         evaluator.full(&Path::Start, expression, point)
     }
 
+    // Where the next section of this region goes, or of none.
+    fn counter_in(&self, region: Option<usize>) -> u64
+        ensures { result ≡ counter_in region (state_of self.now) }
+    {
+        match region {
+            Some(number) => match self.regions.get(number) {
+                Some(counter) => *counter,
+                None => 0,
+            },
+            None => self.counter,
+        }
+    }
+
     // ---- a section begins
 
-    // Where its start expression says, else at 0 where it floats, and else at the next multiple of its alignment.
+    // Where its start expression says, else at 0 where it floats, and else at the next multiple of its alignment, in its
+    // region.
     #[tactic(auto, unfolding(wild_plan_spec::specs::Steps::start_found))]
     fn find_start(&self, ground: &Ground<'_>, place: usize, section: usize) -> Result<u64, Fault>
         ensures { Returns result (start_found (shown_ground ground.now) place ((shown_ground ground.now).facts section) (state_of self.now)) }
@@ -111,7 +181,10 @@ impl Walk {
         match ground.start(section) {
             Some(expression) => self.full(ground, place, expression, start_point(place)),
             None if ground.is_floating(section) => Ok(0),
-            None => up(self.counter, ground.alignment(section)),
+            None => {
+                let counter = self.counter_in(ground.region_number(section));
+                up(counter, ground.alignment(section))
+            }
         }
     }
 
@@ -257,7 +330,7 @@ impl Walk {
 
     // ---- a section ends
 
-    // It ends at the cursor, and so does the counter, unless it floats.
+    // It ends at the cursor. Where it does not float, what comes next goes on from there, in its region too.
     #[tactic(auto, unfolding(wild_plan_spec::specs::Steps::section_ended))]
     fn end_section(&mut self, ground: &Ground<'_>, section: usize) -> Result<(), Fault>
         ensures { Moves result self.new (section_ended (shown_ground ground.now) section (state_of self.old)) }
@@ -265,6 +338,7 @@ impl Walk {
         self.addresses.learn_end(section, self.cursor)?;
         if !ground.is_floating(section) {
             self.counter = self.cursor;
+            set_region_counter(&mut self.regions, ground.region_number(section), self.cursor);
         }
         Ok(())
     }
@@ -291,6 +365,26 @@ impl Walk {
         }
     }
 
+    // It leaves its region, unless it floats.
+    #[tactic(auto, unfolding(wild_plan_spec::specs::Steps::leaves_region))]
+    fn leaves_region(&self, ground: &Ground<'_>, section: usize) -> bool
+        ensures { result ≡ leaves_region (shown_ground ground.now) section (state_of self.now) }
+    {
+        let start = self.addresses.start(section);
+        !ground.is_floating(section) && leaves(ground.region(section), start, self.cursor)
+    }
+
+    // It ends, unless it leaves its region, or shares an address with an earlier one.
+    #[tactic(auto, unfolding(wild_plan_spec::specs::Steps::section_ended_inside))]
+    fn end_section_inside(&mut self, ground: &Ground<'_>, section: usize) -> Result<(), Fault>
+        ensures { Moves result self.new (section_ended_inside (shown_ground ground.now) section (state_of self.old)) }
+    {
+        if self.leaves_region(ground, section) {
+            return Err(region_full(ground, section)?);
+        }
+        self.end_section_alone(ground, section)
+    }
+
     // The rows of the rest are placed, and the section ends.
     #[tactic(auto, unfolding(wild_plan_spec::specs::Steps::section_ended_after))]
     fn end_section_after(
@@ -302,7 +396,7 @@ impl Walk {
         ensures { Moves result self.new (section_ended_after (shown_ground ground.now) rest.now section (state_of self.old)) }
     {
         self.place_chunk(rest)?;
-        self.end_section_alone(ground, section)
+        self.end_section_inside(ground, section)
     }
 
     #[tactic(auto, unfolding(wild_plan_spec::specs::Steps::section_closed))]
@@ -315,7 +409,7 @@ impl Walk {
         ensures { Moves result self.new (section_closed (shown_ground ground.now) section rest (state_of self.old)) }
     {
         match rest {
-            None => self.end_section_alone(ground, section),
+            None => self.end_section_inside(ground, section),
             Some(chunk) => self.end_section_after(ground, ground.chunks.rows(chunk), section),
         }
     }
@@ -352,12 +446,14 @@ impl Walk {
             | Place::Rows(_)
             | Place::Close(_, _) => self.cursor,
             Place::SetLocation(None, _)
-            | Place::Wait(Where::Outermost | Where::Between, _)
+            | Place::Wait(Where::Outermost(_) | Where::Between, _)
             | Place::Open(_, _)
             | Place::Collect(None, _)
             | Place::Discard(_)
             | Place::Idle
-            | Place::Unbuilt => self.counter,
+            | Place::Memory(_)
+            | Place::Headers(_)
+            | Place::Format(_) => self.counter,
         }
     }
 
@@ -388,7 +484,12 @@ impl Walk {
             Place::Collect(chunk, _) => self.collect_chunk(ground, chunk),
             Place::Rows(chunk) => self.place_chunk(ground.chunks.rows(chunk)),
             Place::Close(section, rest) => self.close_section(ground, section, rest),
-            Place::Wait(_, _) | Place::Discard(_) | Place::Idle | Place::Unbuilt => Ok(()),
+            Place::Wait(_, _)
+            | Place::Discard(_)
+            | Place::Idle
+            | Place::Memory(_)
+            | Place::Headers(_)
+            | Place::Format(_) => Ok(()),
         }
     }
 
@@ -406,7 +507,7 @@ pub fn lay_out(ground: &Ground<'_>, places: &[Place<'_>]) -> Result<Walk, Fault>
     ensures laid_out { IfOk result (λ walk. Stands (shown_ground ground.now) (shown_places places.now) (length (shown_places places.now)) (state_of walk)) }
     ensures refused { IfErr result (λ f. (f ≡ fault.NoMemory) ⊎ Refuses (shown_ground ground.now) (shown_places places.now) f) }
 {
-    let mut walk = Walk::new(ground);
+    let mut walk = Walk::new(ground)?;
     for (number, place) in places.iter().enumerate() {
         walk.step(ground, number, place)?;
     }

@@ -207,18 +207,18 @@ reference_checks names (x ∷ xs) = region_check names x.region ++ reference_che
 abbrev pub memory_checks : MemoryAt → List Check
 memory_checks m = all_region_checks m.place m.regions
 
--- what is checked of the names in a script: no two regions have one name, each section names one of them, if any, and no two
--- sections have one name
-abbrev pub script_name_checks : List Command → List Check
-script_name_checks t = name_checks DuplicateName [] (region_names t)
-    ++ (reference_checks (region_names t) (sections_of t)
-    ++ name_checks DuplicateSection [] (names_of (sections_of t)))
+-- what is checked of the names of regions and sections: no two regions have one name, each section names one of them, if it
+-- names one, and no two sections have one name
+abbrev pub script_name_checks : List Name → List Section → List Check
+script_name_checks regions sections = name_checks DuplicateName [] regions
+    ++ (reference_checks regions sections
+    ++ name_checks DuplicateSection [] (names_of sections))
 
 -- what is checked of a script alone: its places, then its memory regions, then its names
 abbrev pub script_checks : PlanOptions → List Command → List Check
 script_checks o t = place_checks o 0 (script_places t)
     ++ (memory_checks (memory_of t)
-    ++ script_name_checks t)
+    ++ script_name_checks (region_names t) (sections_of t))
 
 -- no two definitions that must not stand twice have one name
 abbrev pub symbol_name_checks : Case → List Check

@@ -21,7 +21,7 @@ use Rattle.wild_plan_spec.specs.Fit.{IsLaid}
 use Rattle.wild_plan_spec.specs.Ground.{Ground, ground_of}
 use Rattle.wild_plan_spec.specs.Layout.{layout}
 use Rattle.wild_plan_spec.specs.Orphans.{places_of}
-use Rattle.wild_plan_spec.specs.Places.{Place, SetLocation, Wait, Open, Collect, Rows, Close, Discard, Idle, Unbuilt}
+use Rattle.wild_plan_spec.specs.Places.{Place, SetLocation, Wait, Open, Collect, Rows, Close, Discard, Idle, Memory, Headers, Format}
 use Rattle.wild_plan_spec.specs.Points.{location_point}
 use Rattle.wild_plan_spec.specs.Scopes.{scope_of}
 use Rattle.wild_plan_spec.specs.Settled.{LocationSettles}
@@ -99,7 +99,9 @@ module _ (ground : Ground) where
   effect_grows i (Wait w task) st next goes = by_state (Grows st) st next goes (grows_not st)
   effect_grows i (Discard x) st next goes = by_state (Grows st) st next goes (grows_not st)
   effect_grows i Idle st next goes = by_state (Grows st) st next goes (grows_not st)
-  effect_grows i Unbuilt st next goes = by_state (Grows st) st next goes (grows_not st)
+  effect_grows i (Memory regions) st next goes = by_state (Grows st) st next goes (grows_not st)
+  effect_grows i (Headers headers) st next goes = by_state (Grows st) st next goes (grows_not st)
+  effect_grows i (Format format) st next goes = by_state (Grows st) st next goes (grows_not st)
 
   pub step_grows : (i : ℕ) (p : Place) (st next : State) → step ground i p st ≡ Ok next → Grows st next
   unfolding step

@@ -15,7 +15,7 @@ use Rattle.wild_plan_spec.specs.declared.row.InputTable.{InputTable}
 use Rattle.wild_plan_spec.specs.Fates.{names_of, orphans_of, section_names}
 use Rattle.wild_plan_spec.specs.Names.{Name}
 use Rattle.wild_plan_spec.specs.Orphans.{orphan_places, places_of}
-use Rattle.wild_plan_spec.specs.Places.{Task, Place, SetLocation, Wait, Open, Collect, Rows, Close, Discard, Idle, Unbuilt, contents_places, rest_chunk, section_places, discarding_places, discard_places, statement_places, next_section, all_places, script_places}
+use Rattle.wild_plan_spec.specs.Places.{Task, Place, SetLocation, Wait, Open, Collect, Rows, Close, Discard, Idle, Memory, Headers, Format, contents_places, rest_chunk, section_places, discarding_places, discard_places, statement_places, next_section, all_places, script_places}
 use Rattle.wild_plan_spec.specs.Statements.{Statement, Inner, Outer, is_discard, sections_in, statement_sections, statements_of, sections_of}
 use Rattle.wild_walk_laws.specs.Nesting.{Zone, Free, Inside, Turns, Nests}
 use Rattle.wild_walk_laws.proofs.Having.{Has, has_before, has_after}
@@ -145,13 +145,15 @@ rises x y z low e = let same = ap next_number e in omega (arith, low, same)
 
 turn_rises : (x : Zone) (p : Place) (y : Zone) → Turns x p y → next_number x ≤ next_number y
 turn_rises (Free n) (SetLocation None e) y turn = rises (Free n) y (Free n) (omega arith) turn
-turn_rises (Free n) (Wait stand.Outermost task) y turn = rises (Free n) y (Free n) (omega arith) turn
+turn_rises (Free n) (Wait (stand.Outermost s) task) y turn = rises (Free n) y (Free n) (omega arith) turn.1
 turn_rises (Free n) (Wait stand.Between task) y turn = rises (Free n) y (Free n) (omega arith) turn
 turn_rises (Free n) (Open s x) y turn = rises (Free n) y (Inside n) (omega arith) turn.1
 turn_rises (Free n) (Collect None m) y turn = rises (Free n) y (Free n) (omega arith) turn
 turn_rises (Free n) (Discard x) y turn = rises (Free n) y (Free n) (omega arith) turn
 turn_rises (Free n) Idle y turn = rises (Free n) y (Free n) (omega arith) turn
-turn_rises (Free n) Unbuilt y turn = rises (Free n) y (Free n) (omega arith) turn
+turn_rises (Free n) (Memory regions) y turn = rises (Free n) y (Free n) (omega arith) turn
+turn_rises (Free n) (Headers headers) y turn = rises (Free n) y (Free n) (omega arith) turn
+turn_rises (Free n) (Format format) y turn = rises (Free n) y (Free n) (omega arith) turn
 turn_rises (Inside s) (SetLocation (Some u) e) y turn = rises (Inside s) y (Inside s) (omega arith) turn.1
 turn_rises (Inside s) (Wait (stand.Inside u) task) y turn = rises (Inside s) y (Inside s) (omega arith) turn.1
 turn_rises (Inside s) (Collect (Some q) m) y turn = rises (Inside s) y (Inside s) (omega arith) turn.1

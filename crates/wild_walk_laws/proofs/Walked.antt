@@ -9,7 +9,7 @@ use Rattle.wild_plan_spec.specs.Fates.{section_names}
 use Rattle.wild_plan_spec.specs.Fit.{IsLaid}
 use Rattle.wild_plan_spec.specs.Ground.{Ground, ground_of}
 use Rattle.wild_plan_spec.specs.Orphans.{places_of}
-use Rattle.wild_plan_spec.specs.Places.{Place, SetLocation, Wait, Open, Collect, Rows, Close, Discard, Idle, Unbuilt}
+use Rattle.wild_plan_spec.specs.Places.{Place, SetLocation, Wait, Open, Collect, Rows, Close, Discard, Idle, Memory, Headers, Format}
 use Rattle.wild_plan_spec.specs.Steps.{State, first_state, chunk_placed, chunk_collected, section_opened, cursor_set, overlapped, section_ended_alone, section_ended_after, section_closed, dot_before, dot_noted, effect, step}
 use Rattle.wild_plan_spec.specs.Walk.{Stands}
 use Rattle.wild_walk_laws.specs.Nesting.{Zone, Free, Inside, Turns, Nests}
@@ -53,12 +53,14 @@ module _ (ground : Ground) (places : List Place) (Holds : Zone → State → Typ
     effect_passes : (x : Zone) (p : Place) (y : Zone) (i : ℕ) (st next : State) → slice_get places i ≡ Some p → Turns x p y → effect ground i p st ≡ Ok next → Holds x st → Holds y next
     unfolding effect chunk_collected section_closed section_ended_after
     effect_passes (Free n) (SetLocation None e) y i st next there turn goes h = into (Free n) y next turn (by_counter (Holds (Free n)) ground i e st next goes (λ m value. located n i m st h))
-    effect_passes (Free n) (Wait stand.Outermost task) y i st next there turn goes h = into (Free n) y next turn (by_state (Holds (Free n)) st next goes h)
+    effect_passes (Free n) (Wait (stand.Outermost s) task) y i st next there turn goes h = into (Free n) y next turn.1 (by_state (Holds (Free n)) st next goes h)
     effect_passes (Free n) (Wait stand.Between task) y i st next there turn goes h = into (Free n) y next turn (by_state (Holds (Free n)) st next goes h)
     effect_passes (Free n) (Collect None m) y i st next there turn goes h = into (Free n) y next turn (by_state (Holds (Free n)) st next goes h)
     effect_passes (Free n) (Discard z) y i st next there turn goes h = into (Free n) y next turn (by_state (Holds (Free n)) st next goes h)
     effect_passes (Free n) Idle y i st next there turn goes h = into (Free n) y next turn (by_state (Holds (Free n)) st next goes h)
-    effect_passes (Free n) Unbuilt y i st next there turn goes h = into (Free n) y next turn (by_state (Holds (Free n)) st next goes h)
+    effect_passes (Free n) (Memory regions) y i st next there turn goes h = into (Free n) y next turn (by_state (Holds (Free n)) st next goes h)
+    effect_passes (Free n) (Headers headers) y i st next there turn goes h = into (Free n) y next turn (by_state (Holds (Free n)) st next goes h)
+    effect_passes (Free n) (Format format) y i st next there turn goes h = into (Free n) y next turn (by_state (Holds (Free n)) st next goes h)
     effect_passes (Free n) (Open s x) y i st next there turn goes h = into (Inside n) y next turn.1 (opens i n s st next turn.0 goes h)
     effect_passes (Inside s) (SetLocation (Some u) e) y i st next there turn goes h = into (Inside s) y next turn.1 (moves i s u e st next turn.0 there goes h)
     effect_passes (Inside s) (Wait (stand.Inside u) task) y i st next there turn goes h = into (Inside s) y next turn.1 (by_state (Holds (Inside s)) st next goes h)
