@@ -24,6 +24,8 @@ mod pattern_tests;
 #[cfg(test)]
 mod plan_tests;
 #[cfg(test)]
+mod region_tests;
+#[cfg(test)]
 mod section_tests;
 #[cfg(test)]
 mod tests;

@@ -213,14 +213,14 @@ fn bad_file_patterns(rt: HostRuntime) -> Result<(), Fail> {
 fn order_of_faults(rt: HostRuntime) -> Result<(), Fail> {
     let cases: [Case<'_>; 4] = [
         (
-            "a pattern, then a counter",
-            b"SECTIONS { .a : { *(**) } . = SIZEOF_HEADERS; }",
+            "a pattern, then program headers",
+            b"SECTIONS { .a : { *(**) } } PHDRS { t PT_LOAD; }",
             b"",
             b"fault 8 BadPattern statement=1 name=**\n",
         ),
         (
-            "a counter, then a pattern",
-            b"SECTIONS { . = SIZEOF_HEADERS; .a : { *(**) } }",
+            "program headers, then a pattern",
+            b"PHDRS { t PT_LOAD; } SECTIONS { .a : { *(**) } }",
             b"",
             b"fault 38 Unsupported index=0\n",
         ),

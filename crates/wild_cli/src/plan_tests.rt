@@ -185,16 +185,16 @@ fn statements_after_them(rt: HostRuntime) -> Result<(), Fail> {
             b"fault 22 DivisionByZero statement=2\n",
         ),
         (
-            "an ASSERT that is not built",
-            b"a.o OUTPUT_ARCH(arm) GROUP(b.o c.o) ASSERT(ORIGIN(r), m)",
+            "an ASSERT",
+            b"a.o OUTPUT_ARCH(arm) GROUP(b.o c.o) ASSERT(1 % 0, m)",
             b"",
-            b"fault 38 Unsupported index=3\n",
+            b"fault 23 ModuloByZero statement=3\n",
         ),
         (
-            "a counter that is not built",
-            b"VERSION { V { local: *; }; } SECTIONS { .a : { } . = ORIGIN(r); }",
+            "a counter",
+            b"VERSION { V { local: *; }; } SECTIONS { .a : { } . = ALIGN(0); }",
             b"",
-            b"fault 38 Unsupported index=3\n",
+            b"fault 24 AlignZero statement=3\n",
         ),
     ];
     assert_faults(&rt, rt.alloc(), &cases)?;
@@ -203,13 +203,7 @@ fn statements_after_them(rt: HostRuntime) -> Result<(), Fail> {
 
 #[test]
 fn commands_that_are_not_built(rt: HostRuntime) -> Result<(), Fail> {
-    let cases: [Case<'_>; 3] = [
-        (
-            "memory regions",
-            b"ENTRY(x) MEMORY { r : ORIGIN = 0, LENGTH = 16 }",
-            b"",
-            b"fault 38 Unsupported index=1\n",
-        ),
+    let cases: [Case<'_>; 2] = [
         (
             "program headers",
             b"SECTIONS { .a : { *(.a) } } PHDRS { text PT_LOAD; }",
@@ -217,10 +211,10 @@ fn commands_that_are_not_built(rt: HostRuntime) -> Result<(), Fail> {
             b"fault 38 Unsupported index=3\n",
         ),
         (
-            "output formats",
-            b"OUTPUT_FORMAT(elf64-x86-64) SECTIONS { . = x; }",
+            "program headers after commands that do nothing",
+            b"ENTRY(x) MEMORY { r : ORIGIN = 0, LENGTH = 16 } PHDRS { text PT_LOAD; }",
             b"",
-            b"fault 38 Unsupported index=0\n",
+            b"fault 38 Unsupported index=2\n",
         ),
     ];
     assert_faults(&rt, rt.alloc(), &cases)?;
@@ -408,10 +402,10 @@ fn asserts(rt: HostRuntime) -> Result<(), Fail> {
             b"fault 36 AssertFailed line=4 message=b\n",
         ),
         (
-            "a region in a branch not taken",
-            b"ASSERT(1 || ORIGIN(r), m)",
+            "a region in a branch that is taken",
+            b"ASSERT(0 || ORIGIN(r), m)",
             b"",
-            b"fault 38 Unsupported index=0\n",
+            b"fault 18 UnknownRegion name=r\n",
         ),
         (
             "after the symbols",
@@ -456,10 +450,10 @@ fn symbols_of_the_table(rt: HostRuntime) -> Result<(), Fail> {
 fn symbols_without_value(rt: HostRuntime) -> Result<(), Fail> {
     let cases: [Case<'_>; 3] = [
         (
-            "the size of the headers",
-            b"SECTIONS { .a : { } } x = SIZEOF_HEADERS;",
+            "of no region",
+            b"SECTIONS { .a : { } } x = LENGTH(.a);",
             b"",
-            b"fault 38 Unsupported index=2\n",
+            b"fault 18 UnknownRegion name=.a\n",
         ),
         (
             "of a name without bytes",

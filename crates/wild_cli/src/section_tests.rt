@@ -547,54 +547,18 @@ fn checks(rt: HostRuntime) -> Result<(), Fail> {
 
 #[test]
 fn sections_that_are_not_built(rt: HostRuntime) -> Result<(), Fail> {
-    let cases: [Case<'_>; 8] = [
+    let cases: [Case<'_>; 2] = [
         (
-            "a region",
-            b"SECTIONS { .a : { } .b : { } > R }",
+            "a header",
+            b"SECTIONS { .a : { } .b : { } :h }",
             b"",
             b"fault 38 Unsupported index=2\n",
         ),
         (
-            "a header",
-            b"SECTIONS { .a : { } :h }",
+            "a name before that",
+            b"SECTIONS { \"\" : { } :h }",
             b"",
-            b"fault 38 Unsupported index=0\n",
-        ),
-        (
-            "a branch that is not taken",
-            b"SECTIONS { .a : ALIGN(1 ? 8 : ORIGIN(r)) { } }",
-            b"",
-            b"fault 38 Unsupported index=0\n",
-        ),
-        (
-            "a start",
-            b"SECTIONS { .a SIZEOF_HEADERS : { *(**) } }",
-            b"",
-            b"fault 38 Unsupported index=0\n",
-        ),
-        (
-            "a load",
-            b"SECTIONS { .a : AT(LENGTH(r)) { } }",
-            b"",
-            b"fault 38 Unsupported index=0\n",
-        ),
-        (
-            "a statement in a section",
-            b"SECTIONS { .a : { x = SEGMENT_START(\"s\", 1); } }",
-            b"",
-            b"fault 38 Unsupported index=1\n",
-        ),
-        (
-            "a counter",
-            b"SECTIONS { . = ORIGIN(r); }",
-            b"",
-            b"fault 38 Unsupported index=0\n",
-        ),
-        (
-            "a pattern before that",
-            b"SECTIONS { .a : { *(**) . = SIZEOF_HEADERS; } }",
-            b"",
-            b"fault 8 BadPattern statement=1 name=**\n",
+            b"fault 9 BadName statement=0\n",
         ),
     ];
     assert_faults(&rt, rt.alloc(), &cases)?;

@@ -338,7 +338,11 @@ impl Walk {
         self.addresses.learn_end(section, self.cursor)?;
         if !ground.is_floating(section) {
             self.counter = self.cursor;
-            set_region_counter(&mut self.regions, ground.region_number(section), self.cursor);
+            set_region_counter(
+                &mut self.regions,
+                ground.region_number(section),
+                self.cursor,
+            );
         }
         Ok(())
     }
