@@ -8,7 +8,7 @@ use Rattle.wild_fates.proofs.Failing.{wanted_before, wanted_after, none_after}
 
 module _ (c : Case) where
   abbrev from_script : List Check
-  from_script = script_checks c.commands ++ symbol_name_checks c
+  from_script = script_checks c.options c.commands ++ symbol_name_checks c
 
   pub table_fails : (fault : Fault) → IsWanted (failing (table_checks c.inputs)) fault → IsWanted (failing (checks c)) fault
   table_fails fault h = wanted_before (table_checks c.inputs) from_script fault h
@@ -17,12 +17,12 @@ module _ (c : Case) where
     on_script : (fault : Fault) → IsWanted (failing from_script) fault → IsWanted (failing (checks c)) fault
     on_script fault h = wanted_after (table_checks c.inputs) from_script fault table h
 
-    pub script_fails : (fault : Fault) → IsWanted (failing (script_checks c.commands)) fault → IsWanted (failing (checks c)) fault
-    script_fails fault h = on_script fault (wanted_before (script_checks c.commands) (symbol_name_checks c) fault h)
+    pub script_fails : (fault : Fault) → IsWanted (failing (script_checks c.options c.commands)) fault → IsWanted (failing (checks c)) fault
+    script_fails fault h = on_script fault (wanted_before (script_checks c.options c.commands) (symbol_name_checks c) fault h)
 
-    module _ (script : failing (script_checks c.commands) ≡ None) where
+    module _ (script : failing (script_checks c.options c.commands) ≡ None) where
       pub names_fail : (fault : Fault) → IsWanted (failing (symbol_name_checks c)) fault → IsWanted (failing (checks c)) fault
-      names_fail fault h = on_script fault (wanted_after (script_checks c.commands) (symbol_name_checks c) fault script h)
+      names_fail fault h = on_script fault (wanted_after (script_checks c.options c.commands) (symbol_name_checks c) fault script h)
 
       pub all_hold : failing (symbol_name_checks c) ≡ None → failing (checks c) ≡ None
-      all_hold names = none_after (table_checks c.inputs) from_script table (none_after (script_checks c.commands) (symbol_name_checks c) script names)
+      all_hold names = none_after (table_checks c.inputs) from_script table (none_after (script_checks c.options c.commands) (symbol_name_checks c) script names)

@@ -129,9 +129,10 @@ impl Walk {
     fn new(ground: &Ground<'_>) -> Result<Walk, AllocError>
         ensures { IfOk result (λ walk. state_of walk ≡ first_state (shown_ground ground.now)) }
     {
+        let regions = origins(ground.alloc, ground.scope.regions)?;
         Ok(Walk {
             counter: 0,
-            regions: origins(ground.alloc, ground.scope.regions)?,
+            regions,
             cursor: 0,
             addresses: Addresses::new(ground.alloc),
             locations: Items::new(ground.alloc),

@@ -10,7 +10,7 @@ use Rattle.wild_plan.proofs.walk.lay_out.Goals as goal
 
 pub loop-number-init : goal.loop-number-init
 loop-number-init c =
-    subst (λ s. Stands (shown_ground c.args.ground.now) (shown_places c.args.places.now) 0 s) (sym c.new-walk.ensures) (stands_first _ _)
+    subst (λ s. Stands (shown_ground c.args.ground.now) (shown_places c.args.places.now) 0 s) (sym c.in_ok-walk.ensures) (stands_first _ _)
 
 pub loop-number-preserved : goal.loop-number-preserved
 loop-number-preserved c =
@@ -19,7 +19,7 @@ loop-number-preserved c =
 
 pub returns-in_err-step-clause-refused : goal.returns-in_err-step-clause-refused
 returns-in_err-step-clause-refused c =
-    let p = err_from_is_err_and c.from_residual.result c.from_residual.ensures.1 in
+    let p = err_from_is_err_and c.from_residual-in_err-step.result c.from_residual-in_err-step.ensures.1 in
     let there = shown_at c.args.places.now c.loop-number.number _ (slice_get-get_or c.args.places.now _ _ c.loop-number-test.true ∙ ap Some (sym c.index-places-number.is)) in
     rw (p.1, p.2)
     (⊎_elim (λ h. inl h)
