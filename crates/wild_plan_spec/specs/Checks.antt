@@ -1,13 +1,14 @@
 -- What is checked before a script and its rows are laid out.
-use Rattle.std.specs.Prelude.{ℕ, ◌+◌, ◌^◌, Bool, true, false, not, ◌&&◌, ◌==◌, length, nat_le, nat_lt, List, [], ◌∷◌, ◌++◌, Option, Some, None, Ok, Err, slice_get}
+use Rattle.std.specs.Prelude.{ℕ, ◌+◌, ◌^◌, Bool, true, false, not, ◌&&◌, ◌||◌, ◌==◌, codes, length, nat_le, nat_lt, List, [], ◌∷◌, ◌++◌, Option, Some, None, Ok, Err, slice_get}
 use Rattle.std.specs.Option.{option_map, is_some, unwrap_or}
 use Rattle.std.specs.Result.{is_ok}
+use Rattle.std.specs.Str.{bytes_eq}
 use Rattle.std.specs.List.{find, list_any}
 use Rattle.wild_ids.specs.Alignment.{exponent_of}
 use Rattle.wild_numbering.specs.Numbering.{is_named}
 use Rattle.wild_names.specs.declared.fault.Fault.{Fault}
 use Rattle.wild_names.specs.declared.fault.Fault.TheVariants as fault
-use Rattle.wild_names.specs.declared.fault.Fault.TheVariants.{BadRow, BadSymbolRow, BadDiscard, BadPattern, BadName, BadAlignment, BadFill, DuplicateName, DuplicateSection, DuplicateSymbol, OutputFormat, Overflow, UnknownRegion, Unsupported}
+use Rattle.wild_names.specs.declared.fault.Fault.TheVariants.{BadRow, BadSymbolRow, BadDiscard, BadPattern, BadName, BadAlignment, BadFill, BadHeader, DuplicateName, DuplicateSection, DuplicateSymbol, OutputFormat, Overflow, TooManySegments, UnknownPhdr, UnknownRegion}
 use Rattle.wild_names.specs.declared.target.Architecture.{Architecture}
 use Rattle.wild_names.specs.declared.target.Architecture.TheVariants as machine
 use Rattle.wild_names.specs.declared.target.Endianness.{Endianness}
@@ -20,6 +21,7 @@ use Rattle.wild_script_tree.specs.declared.tree.ContentsCommand.{ContentsCommand
 use Rattle.wild_script_tree.specs.declared.tree.ContentsCommand.TheVariants.{Matcher as OfMatcher}
 use Rattle.wild_script_tree.specs.declared.tree.MemoryRegion.{MemoryRegion}
 use Rattle.wild_script_tree.specs.declared.tree.OutputFormat.{OutputFormat as OfFormat}
+use Rattle.wild_script_tree.specs.declared.tree.Phdr.{Phdr}
 use Rattle.wild_script_tree.specs.declared.tree.Section.{Section}
 use Rattle.wild_script_tree.specs.declared.tree.SectionPattern.{SectionPattern}
 use Rattle.wild_value_spec.specs.declared.constant.ConstFault.{ConstFault}
@@ -33,9 +35,11 @@ use Rattle.wild_plan_spec.specs.Names.{Name}
 use Rattle.wild_plan_spec.specs.Case.{Case}
 use Rattle.wild_plan_spec.specs.Definitions.{entry_names, firm_entries}
 use Rattle.wild_plan_spec.specs.Fates.{names_of, fates_of}
-use Rattle.wild_plan_spec.specs.Places.{Place, Open, Collect, Discard, Headers, Format, script_places}
+use Rattle.wild_plan_spec.specs.Places.{Place, Open, Collect, Discard, Format, script_places}
 use Rattle.wild_plan_spec.specs.Orphans.{places_of}
 use Rattle.wild_plan_spec.specs.Regions.{MemoryAt, memory_of, region_names}
+use Rattle.wild_plan_spec.specs.Headers.{HeadersAt, header_names, phdrs_of}
+use Rattle.wild_plan_spec.specs.Segments.{case_segments}
 use Rattle.wild_plan_spec.specs.Statements.{is_plain, sections_of}
 
 -- a condition, and the fault that stands for its failure
@@ -67,14 +71,6 @@ symbol_checks rows n (s ∷ ss) = check (holds_offset (slice_get rows s.row) s.o
 -- what is checked of a table alone: its rows, then its symbols
 abbrev pub table_checks : InputTable → List Check
 table_checks inputs = row_checks 0 inputs.rows ++ symbol_checks inputs.rows 0 inputs.symbols
-
--- ---- what is built
-
--- what stands at a place is built: no program headers, and no section that names any
-abbrev pub is_place_built : Place → Bool
-is_place_built (Open s (Some x)) = length x.phdrs == 0
-is_place_built (Headers headers) = false
-is_place_built p = true
 
 -- ---- clauses
 
@@ -163,14 +159,10 @@ statement_checks o n (Collect q m) = pattern_checks n m.input_file_pattern m.inp
 statement_checks o n (Format f) = format_checks o f
 statement_checks o n p = []
 
--- what is checked of place n: what it says, and then that what stands there is built
-abbrev pub checks_at : PlanOptions → ℕ → Place → List Check
-checks_at o n p = statement_checks o n p ++ check (is_place_built p) (Unsupported n)
-
 -- the first place of the list has the number n
 abbrev pub place_checks : PlanOptions → ℕ → List Place → List Check
 place_checks o n [] = []
-place_checks o n (p ∷ ps) = checks_at o n p ++ place_checks o (n + 1) ps
+place_checks o n (p ∷ ps) = statement_checks o n p ++ place_checks o (n + 1) ps
 
 -- ---- memory regions
 
@@ -184,6 +176,21 @@ abbrev pub all_region_checks : ℕ → List MemoryRegion → List Check
 all_region_checks n [] = []
 all_region_checks n (r ∷ rs) = region_checks n r ++ all_region_checks n rs
 
+-- ---- program headers
+
+-- a number of header i, in the PHDRS at place n, has four bytes
+abbrev pub header_number_checks : ℕ → ℕ → Option Expression → List Check
+header_number_checks n i e = constant_checks n e (λ v. check (nat_lt v (2 ^ 32)) (BadHeader i v))
+
+-- header i, in the PHDRS at place n, has a type, and then flags, if it says any
+abbrev pub header_checks : ℕ → ℕ → Phdr → List Check
+header_checks n i h = header_number_checks n i (Some h.ptype) ++ header_number_checks n i h.flags
+
+-- the same of each; the first has the number i
+abbrev pub all_header_checks : ℕ → ℕ → List Phdr → List Check
+all_header_checks n i [] = []
+all_header_checks n i (h ∷ hs) = header_checks n i h ++ all_header_checks n (i + 1) hs
+
 -- ---- names
 
 -- no name stands earlier
@@ -196,10 +203,20 @@ abbrev pub region_check : List Name → Option Name → List Check
 region_check names None = []
 region_check names (Some x) = check (list_any (is_named x) names) (UnknownRegion x)
 
--- the same of each section
-abbrev pub reference_checks : List Name → List Section → List Check
-reference_checks names [] = []
-reference_checks names (x ∷ xs) = region_check names x.region ++ reference_checks names xs
+-- a name that is that of no header all the same: a section that names it is in none
+abbrev pub is_none_name : Name → Bool
+is_none_name name = bytes_eq name (codes "NONE")
+
+-- the headers that a section names are among these
+abbrev pub header_name_checks : List Name → List Name → List Check
+header_name_checks names [] = []
+header_name_checks names (x ∷ xs) = check (is_none_name x || list_any (is_named x) names) (UnknownPhdr x) ++ header_name_checks names xs
+
+-- each section names one of these regions, if it names one, and of these headers
+abbrev pub reference_checks : List Name → List Name → List Section → List Check
+reference_checks regions headers [] = []
+reference_checks regions headers (x ∷ xs) =
+    (region_check regions x.region ++ header_name_checks headers x.phdrs) ++ reference_checks regions headers xs
 
 -- ---- all checks
 
@@ -207,28 +224,39 @@ reference_checks names (x ∷ xs) = region_check names x.region ++ reference_che
 abbrev pub memory_checks : MemoryAt → List Check
 memory_checks m = all_region_checks m.place m.regions
 
--- what is checked of the names of regions and sections: no two regions have one name, each section names one of them, if it
--- names one, and no two sections have one name
-abbrev pub script_name_checks : List Name → List Section → List Check
-script_name_checks regions sections = name_checks DuplicateName [] regions
-    ++ (reference_checks regions sections
-    ++ name_checks DuplicateSection [] (names_of sections))
+-- what is checked of the last PHDRS: the numbers of its headers
+abbrev pub phdrs_checks : HeadersAt → List Check
+phdrs_checks h = all_header_checks h.place 0 h.headers
 
--- what is checked of a script alone: its places, then its memory regions, then its names
+-- what is checked of the names of regions, headers and sections: no two regions and no two headers have one name, each section
+-- names some of them, if it names any, and no two sections have one name
+abbrev pub script_name_checks : List Name → List Name → List Section → List Check
+script_name_checks regions headers sections = name_checks DuplicateName [] regions
+    ++ (name_checks DuplicateName [] headers
+    ++ (reference_checks regions headers sections
+    ++ name_checks DuplicateSection [] (names_of sections)))
+
+-- what is checked of a script alone: its places, then its memory regions, its program headers, and its names
 abbrev pub script_checks : PlanOptions → List Command → List Check
 script_checks o t = place_checks o 0 (script_places t)
     ++ (memory_checks (memory_of t)
-    ++ script_name_checks (region_names t) (sections_of t))
+    ++ (phdrs_checks (phdrs_of t)
+    ++ script_name_checks (region_names t) (header_names t) (sections_of t)))
 
 -- no two definitions that must not stand twice have one name
 abbrev pub symbol_name_checks : Case → List Check
 symbol_name_checks c = name_checks DuplicateSymbol [] (entry_names (firm_entries (fates_of c.commands c.inputs) c.inputs.symbols (places_of c.commands c.inputs)))
 
+-- there are no more segments than may be
+abbrev pub segment_checks : Case → List Check
+segment_checks c = check (nat_le (length (case_segments c)) 256) (TooManySegments 256)
+
 -- the conditions, in the order in which they are looked at
 abbrev pub checks : Case → List Check
 checks c = table_checks c.inputs
     ++ (script_checks c.options c.commands
-    ++ symbol_name_checks c)
+    ++ (symbol_name_checks c
+    ++ segment_checks c))
 
 -- the fault of the first condition that fails
 abbrev pub failing : List Check → Option Fault

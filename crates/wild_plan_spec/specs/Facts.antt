@@ -16,6 +16,7 @@ use Rattle.wild_plan_spec.specs.declared.row.InputRow.{InputRow}
 use Rattle.wild_plan_spec.specs.declared.row.InputTable.{InputTable}
 use Rattle.wild_plan_spec.specs.Chunks.{section_rows, largest_alignment}
 use Rattle.wild_plan_spec.specs.Fates.{section_names, fates_of}
+use Rattle.wild_plan_spec.specs.Headers.{four_bytes, section_headers}
 use Rattle.wild_plan_spec.specs.Names.{Name}
 use Rattle.wild_plan_spec.specs.Statements.{sections_of}
 
@@ -34,6 +35,8 @@ pub record Facts : Type 0 where
   pub load : Option Expression
   -- the name of its memory region
   pub region : Option Name
+  -- the names of the program headers that hold it
+  pub headers : List Name
 
 -- ---- clauses: a section of the script may have them, and an orphan has none
 
@@ -41,10 +44,6 @@ pub record Facts : Type 0 where
 abbrev pub clause_alignment : Option Expression → ℕ
 clause_alignment None = 0
 clause_alignment (Some e) = unwrap_or (exponent_of (number_in (const e))) 0
-
--- a fill of four bytes; what does not fit in them is refused before
-abbrev pub fill_number : ℕ → ℕ
-fill_number n = if nat_lt n (2 ^ 32) then n else 0
 
 -- it is marked as no part of the memory
 abbrev pub floats : Option SectionAttributes → Bool
@@ -106,29 +105,35 @@ abbrev pub said : {A : Type 0} → (Section → Option A) → Option Section →
 said clause None = None
 said clause (Some x) = clause x
 
--- of a section of this name with these rows: one of the script, or an orphan
-abbrev pub section_facts : Name → Option Section → List InputRow → Facts
-section_facts name x rows = record {
+-- of a section of this name that these headers hold, with these rows: one of the script, or an orphan
+abbrev pub section_facts : Name → Option Section → List Name → List InputRow → Facts
+section_facts name x headers rows = record {
   name = name;
   alignment = max (clause_alignment (said (λ s. s.alignment) x)) (largest_alignment rows);
   floating = is_floating (said (λ s. s.attributes) x) rows;
   flags = flags_of (said (λ s. s.attributes) x) rows;
-  fill = option_map (λ f. fill_number (number_in (const f.value))) (said (λ s. s.fill) x);
+  fill = option_map (λ f. four_bytes (number_in (const f.value))) (said (λ s. s.fill) x);
   start = said (λ s. s.start_address_expression) x;
   load = said (λ s. s.at_address) x;
   region = said (λ s. s.region) x;
+  headers = headers;
 }
 
--- of sections of these names, by the sections of the script and the fate of each row; the first has the number s
-abbrev pub facts_from : List Section → List InputRow → List (Option Kept) → ℕ → List Name → List Facts
-facts_from sections rows fates s [] = []
-facts_from sections rows fates s (x ∷ xs) =
-    section_facts x (slice_get sections s) (section_rows s rows fates) ∷ facts_from sections rows fates (s + 1) xs
+-- the headers that hold the section of this number: an orphan is in none
+abbrev pub headers_at : List (List Name) → ℕ → List Name
+headers_at headers s = unwrap_or (slice_get headers s) []
+
+-- of sections of these names, by the sections of the script, the headers that hold each, and the fate of each row; the first
+-- has the number s
+abbrev pub facts_from : List Section → List (List Name) → List InputRow → List (Option Kept) → ℕ → List Name → List Facts
+facts_from sections headers rows fates s [] = []
+facts_from sections headers rows fates s (x ∷ xs) =
+    section_facts x (slice_get sections s) (headers_at headers s) (section_rows s rows fates) ∷ facts_from sections headers rows fates (s + 1) xs
 
 -- of all sections, by their numbers
 abbrev pub facts_of : List Command → InputTable → List Facts
-facts_of t inputs = facts_from (sections_of t) inputs.rows (fates_of t inputs) 0 (section_names t inputs)
+facts_of t inputs = facts_from (sections_of t) (section_headers t) inputs.rows (fates_of t inputs) 0 (section_names t inputs)
 
 -- of the section of this number; where there is none, of one without name and rows
 abbrev pub facts_at : List Facts → ℕ → Facts
-facts_at facts s = unwrap_or (slice_get facts s) (section_facts [] None [])
+facts_at facts s = unwrap_or (slice_get facts s) (section_facts [] None [] [])

@@ -1,5 +1,5 @@
 -- What a plan lists.
-use Rattle.std.specs.Prelude.{ℕ, ◌+◌, ◌-◌, not, List, [], ◌∷◌, ◌++◌, Option, Some, None}
+use Rattle.std.specs.Prelude.{ℕ, ◌+◌, ◌-◌, Bool, true, false, not, List, [], ◌∷◌, ◌++◌, Option, Some, None}
 use Rattle.wild_script_tree.specs.declared.tree.Command.{Command}
 use Rattle.wild_plan_spec.specs.declared.chunk.Kept.{Kept}
 use Rattle.wild_plan_spec.specs.declared.row.InputRow.{InputRow}
@@ -13,6 +13,9 @@ use Rattle.wild_plan_spec.specs.Case.{Case}
 use Rattle.wild_plan_spec.specs.Facts.{Facts, facts_of}
 use Rattle.wild_plan_spec.specs.Fates.{fates_of}
 use Rattle.wild_value_spec.specs.Known.{Known, Start, Load, End, Address, number_at}
+use Rattle.wild_segments.specs.declared.segment.PlacedSegment.{PlacedSegment}
+use Rattle.wild_plan_spec.specs.Headers.{headers_of}
+use Rattle.wild_plan_spec.specs.Segments.{case_segments}
 use Rattle.wild_plan_spec.specs.Steps.{State}
 use Rattle.wild_plan_spec.specs.Symbols.{table_symbols}
 
@@ -26,6 +29,10 @@ pub record Layout : Type 0 where
   pub placements : List PlacedInput
   -- in text order
   pub locations : List PlacedLocation
+  -- those of program headers, in their order, or else those of the kinds, by their first sections
+  pub segments : List PlacedSegment
+  -- whether they are those of program headers
+  pub by_headers : Bool
   -- those of the table, then those of the script, each in their order
   pub symbols : List PlacedSymbol
   pub names : List RowNames
@@ -41,7 +48,7 @@ placed_section known s f = record {
   flags = f.flags;
   fill = f.fill;
   region = f.region;
-  headers = [];
+  headers = f.headers;
   counted = not f.floating;
 }
 
@@ -65,6 +72,11 @@ abbrev pub row_names : List InputRow → List RowNames
 row_names [] = []
 row_names (row ∷ rows) = record { file = row.file; «section» = row.«section» } ∷ row_names rows
 
+-- there is something in the list
+abbrev pub is_filled : {X : Type 0} → List X → Bool
+is_filled [] = false
+is_filled (x ∷ xs) = true
+
 -- what is listed of a case where this stands after the last place, and these are the symbols of the script
 abbrev pub layout : Case → State → List PlacedSymbol → Layout
 layout c state found = record {
@@ -72,6 +84,8 @@ layout c state found = record {
   sections = placed_sections state.known 0 (facts_of c.commands c.inputs);
   placements = placed_inputs state.known 0 (fates_of c.commands c.inputs);
   locations = state.locations;
+  segments = case_segments c;
+  by_headers = is_filled (headers_of c.commands);
   symbols = table_symbols state.known (fates_of c.commands c.inputs) c.inputs.symbols ++ found;
   names = row_names c.inputs.rows;
 }

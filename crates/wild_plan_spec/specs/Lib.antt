@@ -3,6 +3,7 @@ pub mod Statements
 pub mod Places
 pub mod Points
 pub mod Regions
+pub mod Headers
 pub mod Rules
 pub mod Fates
 pub mod Orphans
@@ -12,6 +13,7 @@ pub mod Definitions
 pub mod Facts
 pub mod Case
 pub mod Scopes
+pub mod Segments
 pub mod Ground
 pub mod Checks
 pub mod Overlaps

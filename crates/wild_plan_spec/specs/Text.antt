@@ -1,5 +1,5 @@
 -- How names, addresses and plans are printed.
-use Rattle.std.specs.Prelude.{ℕ, ◌/◌, ◌%◌, ◌+◌, ◌-◌, Bool, true, false, ◌&&◌, not, ◌==◌, nat_le, if◌then◌else◌, List, [], ◌∷◌, ◌++◌, length, replicate, codes, decimal, flat_map, slice_get, Option, Some, None, ◌^◌}
+use Rattle.std.specs.Prelude.{ℕ, ◌/◌, ◌%◌, ◌+◌, ◌-◌, Bool, true, false, ◌&&◌, ◌||◌, not, ◌==◌, nat_le, if◌then◌else◌, List, [], ◌∷◌, ◌++◌, length, replicate, map, codes, decimal, flat_map, slice_get, Option, Some, None, ◌^◌}
 use Rattle.std.specs.Fmt.{digit_glyph, digits}
 use Rattle.wild_names.specs.InputFlags.{is_alloc, is_write, is_exec, is_nobits, is_tls}
 use Rattle.wild_names.specs.declared.input_flags.InputFlags.{InputFlags}
@@ -10,7 +10,8 @@ use Rattle.wild_plan_spec.specs.declared.placed.PlacedLocation.{PlacedLocation}
 use Rattle.wild_plan_spec.specs.declared.placed.PlacedSymbol.{PlacedSymbol}
 use Rattle.wild_plan_spec.specs.declared.placed.RowNames.{RowNames}
 use Rattle.wild_plan_spec.specs.Names.{Name}
-use Rattle.wild_plan_spec.specs.Layout.{Layout}
+use Rattle.wild_segments.specs.declared.segment.PlacedSegment.{PlacedSegment}
+use Rattle.wild_plan_spec.specs.Layout.{Layout, is_filled}
 
 -- ---- names and numbers
 
@@ -119,6 +120,22 @@ abbrev pub printed_holder : List PlacedSection → Option ℕ → List ℕ
 printed_holder sections None = 45 ∷ []
 printed_holder sections (Some s) = printed_name (name_at sections s)
 
+-- `0x` and eight hexadecimal digits
+abbrev pub printed_type : ℕ → List ℕ
+printed_type n = codes "0x" ++ hexadecimal 8 n
+
+-- the names of the sections at these indexes, joined by commas
+abbrev pub printed_sections : List PlacedSection → List ℕ → List ℕ
+printed_sections sections held = printed_names (map (name_at sections) held)
+
+-- `segment TYPE FLAGS NAME SECTIONS`
+unfoldable pub segment_line : List PlacedSection → PlacedSegment → List ℕ
+segment_line sections s = codes "segment" ++ field (printed_type s.ptype) ++ field (decimal s.flags) ++ field (printed_name s.name) ++ field (printed_sections sections s.sections) ++ 10 ∷ []
+
+-- the line of a segment; one that is of no header has none where it holds no section
+abbrev pub segment_lines_of : Bool → List PlacedSection → PlacedSegment → List ℕ
+segment_lines_of by_headers sections s = if by_headers || is_filled s.sections then segment_line sections s else []
+
 -- `hidden`, or `default`
 abbrev pub printed_visibility : Bool → List ℕ
 printed_visibility true = codes "hidden"
@@ -128,6 +145,7 @@ printed_visibility false = codes "default"
 unfoldable pub symbol_line : List PlacedSection → PlacedSymbol → List ℕ
 symbol_line sections s = codes "symbol" ++ field (printed_name s.name) ++ field (printed_address s.address) ++ field (printed_holder sections s.«section») ++ field (printed_visibility s.hidden) ++ 10 ∷ []
 
--- the text of a plan: a line for each section, then for each row, then for each location, then for each symbol
+-- the text of a plan: a line for each section, then for each row, then for each location, then for each segment that has one,
+-- then for each symbol
 abbrev pub plan_text : Layout → List ℕ
-plan_text plan = flat_map section_line plan.sections ++ input_lines plan.sections 0 plan.placements plan.names ++ flat_map location_line plan.locations ++ flat_map (symbol_line plan.sections) plan.symbols
+plan_text plan = flat_map section_line plan.sections ++ input_lines plan.sections 0 plan.placements plan.names ++ flat_map location_line plan.locations ++ flat_map (segment_lines_of plan.by_headers plan.sections) plan.segments ++ flat_map (symbol_line plan.sections) plan.symbols

@@ -14,3 +14,4 @@ pub use options::PlanOptions;
 pub use place::Where;
 pub use placed::{Names, PlacedInput, PlacedLocation, PlacedSection, PlacedSymbol, RowNames};
 pub use row::{InputRow, InputRows, InputTable, SymbolRow, SymbolRows};
+pub use wild_segments::{PlacedSegment, SectionIndexes};
