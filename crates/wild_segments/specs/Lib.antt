@@ -3,3 +3,4 @@ pub mod Kinds
 pub mod Runs
 pub mod Holding
 pub mod Segments
+pub mod Laws

@@ -4,6 +4,7 @@
 mod by_header;
 mod finding;
 mod kind;
+mod laws;
 mod member;
 mod room;
 mod run;
@@ -11,6 +12,7 @@ mod segment;
 
 pub use finding::find_segments;
 pub use kind::SegmentKind;
+pub use laws::{each_stands_once, runs_are_longest, segments_share_regions};
 pub use member::{SegmentHeader, SegmentMember};
 pub use segment::{MAX_SEGMENTS, PlacedSegment, SectionIndexes};
 
