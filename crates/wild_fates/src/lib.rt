@@ -4,6 +4,7 @@
 mod clauses;
 mod fates;
 mod formats;
+mod headers;
 mod places;
 mod regions;
 mod rules;

@@ -2,7 +2,7 @@
 
 ghost use Rattle.std.specs.Prelude.{◌≡◌, [], ◌∷◌, ◌++◌, IfOk, OnOk, map};
 ghost use Rattle.wild_names.specs.declared.fault.Fault.TheVariants.{DuplicateName};
-ghost use Rattle.wild_plan_spec.specs.Checks.{all_region_checks, failing, name_checks, reference_checks, region_check, region_checks};
+ghost use Rattle.wild_plan_spec.specs.Checks.{all_region_checks, failing, header_name_checks, name_checks, reference_checks, region_check, region_checks};
 ghost use Rattle.wild_plan_spec.specs.Regions.{last_or, memories, memory_at, names_in, no_memory, region_of};
 ghost use Rattle.wild_fates.specs.Memories.{shown_memory};
 ghost use Rattle.wild_fates.specs.Passes.{Passes, repeated};
@@ -10,6 +10,7 @@ ghost use Rattle.wild_fates.specs.Shown.{shown_place, shown_places};
 ghost use Rattle.wild_fates.specs.Targets.{targets};
 
 use crate::clauses::number_or_fault;
+use crate::headers::check_header_names;
 use crate::places::Place;
 use sqlite_items::Items;
 use std::alloc::Global;
@@ -130,16 +131,31 @@ fn check_reference(alloc: Global, names: &Numbering, region: &Option<Name>) -> R
     Err(Fault::UnknownRegion { name })
 }
 
-/// The regions that sections name are among these. The fault is that of the first that is not.
+// The region and the headers that a section names are among these.
+#[tactic(auto, using(std::proofs::lemmas::Grind::common_steps, crate::proofs::Failing::none_after))]
+fn check_section(
+    alloc: Global,
+    regions: &Numbering,
+    headers: &Numbering,
+    section: &Section,
+) -> Result<(), Fault>
+    ensures { Passes (failing (region_check regions.now section.now.region ++ header_name_checks headers.now section.now.phdrs)) result }
+{
+    check_reference(alloc, regions, &section.region)?;
+    check_header_names(alloc, headers, section.phdrs.as_slice())
+}
+
+/// The regions and headers that sections name are among these. The fault is that of the first section with one that is not.
 pub fn check_references(
     alloc: Global,
-    names: &Numbering,
+    regions: &Numbering,
+    headers: &Numbering,
     sections: &[&Section],
 ) -> Result<(), Fault>
-    ensures { Passes (failing (reference_checks names.now (targets sections.now))) result }
+    ensures { Passes (failing (reference_checks regions.now headers.now (targets sections.now))) result }
 {
     for section in sections {
-        check_reference(alloc, names, &section.region)?;
+        check_section(alloc, regions, headers, section)?;
     }
     Ok(())
 }

@@ -5,7 +5,7 @@ ghost use Rattle.std.specs.Option.{option_copied, option_to_list};
 ghost use Rattle.wild_names.specs.declared.fault.Fault.TheVariants as fault;
 ghost use Rattle.wild_rules.specs.declared.fault.RuleFault.TheVariants as why;
 ghost use Rattle.wild_rules.specs.Making.{script_rule};
-ghost use Rattle.wild_plan_spec.specs.Checks.{pattern_check, pattern_checks, statement_checks, checks_at, is_place_built, place_checks, failing};
+ghost use Rattle.wild_plan_spec.specs.Checks.{pattern_check, pattern_checks, statement_checks, place_checks, failing};
 ghost use Rattle.wild_plan_spec.specs.Fates.{name_decision};
 ghost use Rattle.wild_plan_spec.specs.Rules.{rules_in};
 ghost use Rattle.wild_fates.specs.Numbered.{outcome_decision, outcome_for, rule_list, numbered_patterns, numbered_place, number_for, chunks_at, chunks_in, numbered_rules};
@@ -198,17 +198,6 @@ fn number_chunk(
     Ok(Some(OutputSectionId::from_usize(number)))
 }
 
-// Whether what stands at a place is built: no program headers, and no section that names any.
-fn is_place_built(place: &Place<'_>) -> bool
-    ensures { result ≡ is_place_built (shown_place place.now) }
-{
-    match *place {
-        Place::Open(_, Some(section)) => section.phdrs.is_empty(),
-        Place::Headers(_) => false,
-        _ => true,
-    }
-}
-
 /// The rules of the first places, and the chunks that have numbers.
 #[derive(Drop)]
 struct NumberedRules {
@@ -241,26 +230,6 @@ impl NumberedRules {
             _ => Ok(()),
         }
     }
-
-    #[tactic(auto, using(std::proofs::lemmas::Grind::common_steps, crate::proofs::Failing::failing_after))]
-    fn push_place(
-        &mut self,
-        alloc: Global,
-        options: &PlanOptions,
-        statement: usize,
-        place: &Place<'_>,
-    ) -> Result<(), Fault>
-        ensures rules { OnOk result (self.new.rules ≡ self.old.rules ++ numbered_place self.old.chunks (shown_place place.now)) }
-        ensures chunks { OnOk result (self.new.chunks ≡ self.old.chunks ++ chunks_at (shown_place place.now)) }
-        ensures passes { Passes (failing (checks_at options.now statement (shown_place place.now))) result }
-    {
-        self.push_statement(alloc, options, statement, place)?;
-        if is_place_built(place) {
-            Ok(())
-        } else {
-            Err(Fault::Unsupported { index: statement })
-        }
-    }
 }
 
 #[tactic(auto, using(std::proofs::lemmas::Grind::common_steps, crate::proofs::Failing::failing_after))]
@@ -278,13 +247,13 @@ fn number_rules(
         chunks: Items::new(alloc),
     };
     for (statement, place) in places.iter().enumerate() {
-        numbered.push_place(alloc, options, statement, place)?;
+        numbered.push_statement(alloc, options, statement, place)?;
     }
     Ok(numbered)
 }
 
 /// The rules of these places, in their order. The fault is the first of a place: what a section or `/DISCARD/` must not
-/// say, a pattern that has no reading, a format of another machine, or that what stands there is not built.
+/// say, a pattern that has no reading, or a format of another machine.
 #[tactic(auto, using(crate::proofs::Numbered::rules_are))]
 pub fn find_rules(
     alloc: Global,

@@ -4,14 +4,16 @@ ghost use Rattle.std.specs.Prelude.{◌≡◌, ◌∷◌, ◌++◌, [], IfOk, ma
 ghost use Rattle.wild_names.specs.declared.fault.Fault.TheVariants.{DuplicateSection};
 ghost use Rattle.wild_plan_spec.specs.Checks.{name_checks, script_checks, script_name_checks, failing};
 ghost use Rattle.wild_plan_spec.specs.Fates.{names_of};
+ghost use Rattle.wild_plan_spec.specs.Headers.{header_of, names_of_headers};
 ghost use Rattle.wild_plan_spec.specs.Regions.{names_in, region_of};
 ghost use Rattle.wild_plan_spec.specs.Rules.{rules_in};
 ghost use Rattle.wild_fates.specs.Passes.{Passes, repeated};
-ghost use Rattle.wild_fates.specs.Parts.{IsParts, AreFatesBy, AreFates, memory_in, parts_checks};
+ghost use Rattle.wild_fates.specs.Parts.{IsParts, AreFatesBy, AreFates, headers_list, memory_in, parts_checks};
 ghost use Rattle.wild_fates.specs.Targets.{targets};
 ghost use Rattle.wild_fates.specs.Shown.{shown_places};
 
 use crate::fates::{Fates, find_fates};
+use crate::headers::{check_headers, find_section_headers, last_headers, number_headers};
 use crate::places::{Place, find_places, push_orphans};
 use crate::regions::{Regions, check_references, check_regions, last_memory, number_regions};
 use crate::rules::{Rules, find_rules};
@@ -19,15 +21,18 @@ use crate::section_names::SectionNames;
 use crate::statements::{find_sections, find_statements};
 use sqlite_items::Items;
 use std::alloc::Global;
-use wild_base::{Fault, NoMemory};
+use wild_base::{Fault, Name, NoMemory};
 use wild_numbering::Numbering;
 use wild_plan_spec::{InputRow, InputTable, Kept, PlanOptions};
-use wild_script_tree::{Command, MemoryRegion, Section};
+use wild_script_tree::{Command, MemoryRegion, Phdr, Section};
+use wild_segments::SegmentHeader;
 
 /// What a script is taken apart into.
 #[derive(Drop)]
 pub struct Parts<'a> {
     pub sections: Items<&'a Section>,
+    /// The names of the program headers that hold each of them.
+    pub section_headers: Items<&'a [Name]>,
     pub places: Items<Place<'a>>,
 }
 
@@ -36,8 +41,12 @@ pub struct Parts<'a> {
 pub struct ScriptFates<'a> {
     /// The sections of the script.
     pub sections: Items<&'a Section>,
+    /// The names of the program headers that hold each of them.
+    pub section_headers: Items<&'a [Name]>,
     /// The memory regions of the script.
     pub regions: Regions,
+    /// The program headers of the script.
+    pub headers: Items<SegmentHeader<'a>>,
     /// The names of the sections, orphans last.
     pub names: SectionNames<'a>,
     /// The places of the script, and after them those of the orphans.
@@ -52,7 +61,12 @@ fn find_parts(alloc: Global, commands: &[Command]) -> Result<Parts<'_>, NoMemory
     let statements = find_statements(alloc, commands)?;
     let places = find_places(alloc, statements.as_slice())?;
     let sections = find_sections(alloc, statements.as_slice())?;
-    Ok(Parts { sections, places })
+    let section_headers = find_section_headers(alloc, commands)?;
+    Ok(Parts {
+        sections,
+        section_headers,
+        places,
+    })
 }
 
 #[tactic(auto, using(crate::proofs::Names::any_number))]
@@ -90,6 +104,8 @@ fn number_sections<'a>(alloc: Global, sections: &[&'a Section]) -> Result<Sectio
 pub struct Checked<'a> {
     pub rules: Rules,
     pub regions: Regions,
+    /// Its program headers.
+    pub headers: Items<SegmentHeader<'a>>,
     /// The names of its sections.
     pub own: SectionNames<'a>,
 }
@@ -101,20 +117,22 @@ struct ScriptNames<'a> {
     own: SectionNames<'a>,
 }
 
-// The names of these regions and sections. The fault is first that of a region with the name of an earlier one, then that of
-// a section that names none of them, then that of a section with the name of an earlier one.
+// The names of these regions and sections. The fault is first that of a region or header with the name of an earlier one, then
+// that of a section that names none of them, then that of a section with the name of an earlier one.
 #[tactic(auto, using(std::proofs::lemmas::Grind::common_steps, crate::proofs::Failing::none_after))]
 fn check_names<'a>(
     alloc: Global,
     regions: &[MemoryRegion],
+    headers: &[Phdr],
     sections: &[&'a Section],
 ) -> Result<ScriptNames<'a>, Fault>
     ensures regions { IfOk result (λ names. names.regions ≡ names_in regions.now) }
     ensures own { IfOk result (λ names. names.own ≡ names_of (targets sections.now)) }
-    ensures passes { Passes (failing (script_name_checks (names_in regions.now) (targets sections.now))) result }
+    ensures passes { Passes (failing (script_name_checks (names_in regions.now) (names_of_headers headers.now) (targets sections.now))) result }
 {
     let numbers = number_regions(alloc, regions)?;
-    check_references(alloc, &numbers, sections)?;
+    let header_numbers = number_headers(alloc, headers)?;
+    check_references(alloc, &numbers, &header_numbers, sections)?;
     let own = number_sections(alloc, sections)?;
     Ok(ScriptNames {
         regions: numbers,
@@ -122,7 +140,7 @@ fn check_names<'a>(
     })
 }
 
-// What is checked of a script alone: its places, then its memory regions, then its names.
+// What is checked of a script alone: its places, then its memory regions, its program headers, and its names.
 #[tactic(auto, using(std::proofs::lemmas::Grind::common_steps, crate::proofs::Failing::none_after))]
 fn check_script<'a>(
     alloc: Global,
@@ -132,6 +150,7 @@ fn check_script<'a>(
     ensures rules { IfOk result (λ checked. checked.rules ≡ rules_in (shown_places parts.now.places)) }
     ensures regions { IfOk result (λ checked. checked.regions.regions ≡ map region_of (memory_in (shown_places parts.now.places)).regions) }
     ensures region_names { IfOk result (λ checked. checked.regions.names ≡ names_in (memory_in (shown_places parts.now.places)).regions) }
+    ensures headers { IfOk result (λ checked. checked.headers ≡ map header_of (headers_list (shown_places parts.now.places)).headers) }
     ensures own { IfOk result (λ checked. checked.own ≡ names_of (targets parts.now.sections)) }
     ensures passes { Passes (failing (parts_checks options.now (shown_places parts.now.places) (targets parts.now.sections))) result }
 {
@@ -139,7 +158,10 @@ fn check_script<'a>(
     let rules = find_rules(alloc, options, places)?;
     let memory = last_memory(places);
     let regions = check_regions(alloc, &memory)?;
-    let names = check_names(alloc, memory.regions, parts.sections.as_slice())?;
+    let list = last_headers(places);
+    let headers = check_headers(alloc, &list)?;
+    let sections = parts.sections.as_slice();
+    let names = check_names(alloc, memory.regions, list.headers, sections)?;
     let ScriptNames {
         regions: numbers,
         own,
@@ -150,6 +172,7 @@ fn check_script<'a>(
             names: numbers,
             regions,
         },
+        headers,
         own,
     })
 }
@@ -161,15 +184,17 @@ fn decide_by<'a>(
     checked: Checked<'a>,
     rows: &'a [InputRow],
 ) -> Result<ScriptFates<'a>, NoMemory>
-    ensures { IfOk result (AreFatesBy parts.entry checked.entry.regions checked.entry.rules checked.entry.own rows.now) }
+    ensures { IfOk result (AreFatesBy parts.entry checked.entry.regions checked.entry.headers checked.entry.rules checked.entry.own rows.now) }
 {
     let Checked {
         rules,
         regions,
+        headers,
         own,
     } = checked;
     let Parts {
         sections,
+        section_headers,
         mut places,
     } = parts;
     let first = own.len();
@@ -180,7 +205,9 @@ fn decide_by<'a>(
     push_orphans(&mut places, first, names.len())?;
     Ok(ScriptFates {
         sections,
+        section_headers,
         regions,
+        headers,
         names,
         places,
         fates,
@@ -192,10 +219,11 @@ fn decide_by<'a>(
 ///
 /// # Errors
 ///
-/// First that of the first place that fails: what a section or `/DISCARD/` must not say, a pattern without a reading, a format
-/// of another machine, or what is not built. Then that of the first region of the last MEMORY without an origin, a length or
-/// an end. Then that of the first name: of a region with the name of an earlier one, of a section that names no region, of a
-/// section with the name of an earlier one. NoMemory may come at any point.
+/// First that of the first place that fails: what a section or `/DISCARD/` must not say, a pattern without a reading, or a
+/// format of another machine. Then that of the first region of the last MEMORY without an origin, a length or an end, and of the
+/// first header of the last PHDRS without a type or flags of four bytes. Then that of the first name: of a region or a header with
+/// the name of an earlier one, of a section that names no region or no header, of a section with the name of an earlier one.
+/// NoMemory may come at any point.
 pub fn decide_fates<'a>(
     alloc: Global,
     options: &PlanOptions,

@@ -26,8 +26,10 @@ use Rattle.wild_plan_spec.specs.Walk.{Stands, Refuses}
 use Rattle.wild_plan_spec.proofs.Unique.{plans_once, plan_or_fault, faults_once}
 use Rattle.wild_walk_laws.proofs.Settled.{settles}
 use Rattle.wild_plan.specs.declared.lists.Lists.{Lists}
+use Rattle.wild_plan.specs.declared.segments.Segments.{Segments}
 use Rattle.wild_plan.specs.Planned.{case_of, IsPlan, IsLaterFault, IsThePlan, IsTheFault}
 use Rattle.wild_plan.specs.Listed.{AreLists, shown_lists}
+use Rattle.wild_plan.specs.Segments.{AreSegments}
 use Rattle.wild_plan.proofs.Sums.{sums_same}
 
 -- ---- cases
@@ -57,10 +59,10 @@ module _ (c : Case) (sound : failing (checks c) ≡ None) (order : Chunk → Lis
     pub end_refused : (fault : Fault) → final_symbols ground.scope state.known places ≡ Err fault → FaultIn c fault
     end_refused fault h = inr (inr (record { state = state; laid = laid; refused = sym final_same ∙ h }))
 
-    module _ (found : List PlacedSymbol) (finishes : final_symbols ground.scope state.known places ≡ Ok found) (fates : List (Option Kept)) (facts : List Facts) (lists : Lists)
-        (are_fates : fates ≡ fates_of c.commands c.inputs) (are_facts : facts ≡ facts_of c.commands c.inputs) (l : AreLists c.inputs fates facts state found lists) where
+    module _ (found : List PlacedSymbol) (finishes : final_symbols ground.scope state.known places ≡ Ok found) (segments : Segments) (are_segments : AreSegments c segments) (fates : List (Option Kept)) (facts : List Facts) (lists : Lists)
+        (are_fates : fates ≡ fates_of c.commands c.inputs) (are_facts : facts ≡ facts_of c.commands c.inputs) (l : AreLists segments c.inputs fates facts state found lists) where
       lists_same : shown_lists c.commands lists ≡ layout c state found
-      lists_same = rw (l.sections, l.placements, l.locations, l.symbols, l.names, are_fates, are_facts, sums_same c state laid) refl
+      lists_same = rw (l.sections, l.placements, l.locations, l.segments, are_segments.list, l.by_headers, are_segments.by_headers, l.symbols, l.names, are_fates, are_facts, sums_same c state laid) refl
 
       pub lists_fit : Fits c (shown_lists c.commands lists)
       lists_fit = record {

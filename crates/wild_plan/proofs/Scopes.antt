@@ -21,6 +21,7 @@ use Rattle.wild_plan_spec.specs.Definitions.{definitions_in, entry_names}
 use Rattle.wild_plan_spec.specs.Facts as spec
 use Rattle.wild_plan_spec.specs.Fates.{section_names, fates_of}
 use Rattle.wild_plan_spec.specs.Ground.{Ground, ground_of}
+use Rattle.wild_plan_spec.specs.Headers.{section_headers}
 use Rattle.wild_plan_spec.specs.Names.{Bytes, Name, or_empty}
 use Rattle.wild_plan_spec.specs.Regions.{region_names, regions_of}
 use Rattle.wild_plan_spec.specs.Scopes.{entries_of, scope_of}
@@ -36,10 +37,11 @@ name_same [] s = refl
 name_same (x ∷ xs) zero = refl
 name_same (x ∷ xs) (suc s) = name_same xs s
 
-name_said : (sections : List Section) (rows : List InputRow) (fates : List (Option Kept)) (n : ℕ) (xs : List Name) (s : ℕ) → (spec.facts_at (spec.facts_from sections rows fates n xs) s).name ≡ or_empty (slice_get xs s)
-name_said sections rows fates n [] s = refl
-name_said sections rows fates n (x ∷ xs) zero = refl
-name_said sections rows fates n (x ∷ xs) (suc s) = name_said sections rows fates (n + 1) xs s
+name_said : (sections : List Section) (headers : List (List Name)) (rows : List InputRow) (fates : List (Option Kept)) (n : ℕ) (xs : List Name) (s : ℕ)
+    → (spec.facts_at (spec.facts_from sections headers rows fates n xs) s).name ≡ or_empty (slice_get xs s)
+name_said sections headers rows fates n [] s = refl
+name_said sections headers rows fates n (x ∷ xs) zero = refl
+name_said sections headers rows fates n (x ∷ xs) (suc s) = name_said sections headers rows fates (n + 1) xs s
 
 alignment_said : (fs : List spec.Facts) (s : ℕ) → unwrap_or (slice_get (alignments_in fs) s) 0 ≡ (spec.facts_at fs s).alignment
 alignment_said [] s = refl
@@ -86,7 +88,7 @@ module _ (c : Case) where
   names_said sections a s =
       name_same sections s
       ∙ ap (λ (xs : List Name). or_empty (slice_get xs s)) a
-      ∙ sym (name_said (sections_of c.commands) c.inputs.rows (fates_of c.commands c.inputs) 0 (section_names c.commands c.inputs) s)
+      ∙ sym (name_said (sections_of c.commands) (section_headers c.commands) c.inputs.rows (fates_of c.commands c.inputs) 0 (section_names c.commands c.inputs) s)
 
   regions_said : (numbers : List Name) (regions : List Region) → numbers ≡ region_names c.commands → regions ≡ regions_of c.commands
       → (λ (x : Name). region_at regions (number_of x numbers)) ≡ (λ (x : Name). region_at (regions_of c.commands) (number_of x (region_names c.commands)))

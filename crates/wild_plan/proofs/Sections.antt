@@ -17,6 +17,6 @@ all_append (x ∷ xs) ys = ap (λ zs. shown_facts x ∷ zs) (all_append xs ys)
 
 -- by their traits as by their rows
 module _ (rows : List InputRow) (fates : List (Option Kept)) (traits : ℕ → Traits) (same : (s : ℕ) → traits s ≡ traits_of (section_rows s rows fates)) where
-  pub facts_same : (sections : List Section) (s : ℕ) (xs : List Name) → facts_with sections traits s xs ≡ facts_from sections rows fates s xs
-  facts_same sections s [] = refl
-  facts_same sections s (x ∷ xs) = rw (same s, facts_same sections (s + 1) xs) refl
+  pub facts_same : (sections : List Section) (headers : List (List Name)) (s : ℕ) (xs : List Name) → facts_with sections headers traits s xs ≡ facts_from sections headers rows fates s xs
+  facts_same sections headers s [] = refl
+  facts_same sections headers s (x ∷ xs) = rw (same s, facts_same sections headers (s + 1) xs) refl

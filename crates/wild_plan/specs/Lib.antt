@@ -16,3 +16,4 @@ pub use Rattle.wild_plan_spec.specs.Layout
 pub use Rattle.wild_plan_spec.specs.Text
 pub use Rattle.wild_plan_spec.specs.FaultText
 pub mod Planned
+pub mod Segments

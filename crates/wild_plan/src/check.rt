@@ -109,8 +109,8 @@ fn number_entries(alloc: Global, entries: &[SymbolEntry<'_>]) -> Result<Numberin
 
 // ---- all checks
 
-/// Checks a case, and answers what it defines: the table, then the places of the script and the names of its sections, then
-/// the names of the symbols.
+/// Checks a case but for its segments, and answers what it defines: the table, then the script alone, then the names of the
+/// symbols.
 pub fn check<'a>(alloc: Global, case: &Case<'a>) -> Result<Definitions<'a>, Fault>
     ensures sound { IfOk result (IsChecked (shown_case case.now)) }
     ensures failing { IfErr result (IsWanted (failing (checks (shown_case case.now)))) }

@@ -4,6 +4,7 @@ ghost use Rattle.std.specs.Prelude.{◌≡◌, ◌∷◌, ◌++◌, [], OnOk, If
 ghost use Rattle.std.specs.Option.{option_copied, option_map};
 ghost use Rattle.wild_plan_spec.specs.Facts as spec;
 ghost use Rattle.wild_value_spec.specs.Const.{const, number_in};
+ghost use Rattle.wild_plan_spec.specs.Headers.{four_bytes};
 ghost use Rattle.wild_fates.specs.Targets.{targets};
 ghost use Rattle.wild_plan.specs.Facts.{alignments_in, facts_by, facts_with, flags_by, floating_by, shown_all, shown_facts};
 ghost use Rattle.wild_plan.specs.Traits.{traits_at};
@@ -33,6 +34,8 @@ pub struct Facts<'a> {
     pub load: Option<&'a Expression>,
     /// The name of its memory region.
     pub region: Option<&'a Name>,
+    /// The names of the program headers that hold it.
+    pub headers: &'a [Name],
 }
 
 // ---- clauses
@@ -60,9 +63,9 @@ fn clause_alignment(clause: Option<&Expression>) -> Alignment
     }
 }
 
-// A fill of four bytes, or 0; what does not fit in them is refused before.
+// A number of four bytes, or 0; what does not fit in them is refused before.
 fn fill_number(fill: &Fill) -> u32
-    ensures { result ≡ spec.fill_number (number_in (const fill.now.value)) }
+    ensures { result ≡ four_bytes (number_in (const fill.now.value)) }
 {
     match u32::try_from(number_in(&fill.value)) {
         Ok(number) => number,
@@ -71,7 +74,7 @@ fn fill_number(fill: &Fill) -> u32
 }
 
 fn fill_of(fill: Option<&Fill>) -> Option<u32>
-    ensures { result ≡ option_map (λ f. spec.fill_number (number_in (const f.value))) (option_copied fill.entry) }
+    ensures { result ≡ option_map (λ f. four_bytes (number_in (const f.value))) (option_copied fill.entry) }
 {
     match fill {
         Some(fill) => Some(fill_number(fill)),
@@ -151,8 +154,13 @@ fn flags_by(attributes: Option<SectionAttributes>, traits: &Traits) -> InputFlag
 }
 
 // What is said of a section of the script of this name, with these traits.
-fn script_facts<'a>(name: &'a Name, section: &'a Section, traits: &Traits) -> Facts<'a>
-    ensures { shown_facts result ≡ facts_by name.now (Some section.now) traits.now }
+fn script_facts<'a>(
+    name: &'a Name,
+    section: &'a Section,
+    headers: &'a [Name],
+    traits: &Traits,
+) -> Facts<'a>
+    ensures { shown_facts result ≡ facts_by name.now (Some section.now) headers.now traits.now }
 {
     let alignment = clause_alignment(section.alignment.as_ref()).max(traits.alignment);
     let floating = floating_by(section.attributes, traits);
@@ -170,12 +178,13 @@ fn script_facts<'a>(name: &'a Name, section: &'a Section, traits: &Traits) -> Fa
         start,
         load,
         region,
+        headers,
     }
 }
 
 // What is said of an orphan of this name, with these traits.
-fn orphan_facts<'a>(name: &'a Name, traits: &Traits) -> Facts<'a>
-    ensures { shown_facts result ≡ facts_by name.now None traits.now }
+fn orphan_facts<'a>(name: &'a Name, headers: &'a [Name], traits: &Traits) -> Facts<'a>
+    ensures { shown_facts result ≡ facts_by name.now None headers.now traits.now }
 {
     let floating = floating_by(None, traits);
     let flags = flags_by(None, traits);
@@ -188,16 +197,22 @@ fn orphan_facts<'a>(name: &'a Name, traits: &Traits) -> Facts<'a>
         start: None,
         load: None,
         region: None,
+        headers,
     }
 }
 
 // What is said of a section of this name, with these traits.
-fn facts_by<'a>(name: &'a Name, section: Option<&'a Section>, traits: &Traits) -> Facts<'a>
-    ensures { shown_facts result ≡ facts_by name.now (option_copied section.entry) traits.now }
+fn facts_by<'a>(
+    name: &'a Name,
+    section: Option<&'a Section>,
+    headers: &'a [Name],
+    traits: &Traits,
+) -> Facts<'a>
+    ensures { shown_facts result ≡ facts_by name.now (option_copied section.entry) headers.now traits.now }
 {
     match section {
-        Some(section) => script_facts(name, section, traits),
-        None => orphan_facts(name, traits),
+        Some(section) => script_facts(name, section, headers, traits),
+        None => orphan_facts(name, headers, traits),
     }
 }
 
@@ -207,11 +222,12 @@ fn push_section<'a>(
     facts: &mut Items<Facts<'a>>,
     name: &'a Name,
     section: Option<&'a Section>,
+    headers: &'a [Name],
     traits: &Traits,
 ) -> Result<(), NoMemory>
-    ensures { OnOk result (shown_all facts.new ≡ shown_all facts.old ++ facts_by name.now (option_copied section.entry) traits.now ∷ []) }
+    ensures { OnOk result (shown_all facts.new ≡ shown_all facts.old ++ facts_by name.now (option_copied section.entry) headers.now traits.now ∷ []) }
 {
-    facts.push(facts_by(name, section, traits))?;
+    facts.push(facts_by(name, section, headers, traits))?;
     Ok(())
 }
 
@@ -222,38 +238,53 @@ fn section_at<'a>(sections: &[&'a Section], number: usize) -> Option<&'a Section
     sections.get(number).copied()
 }
 
+// The headers that hold the section of this number: an orphan is in none.
+fn headers_at<'a>(headers: &[&'a [Name]], number: usize) -> &'a [Name]
+    ensures { result.now ≡ spec.headers_at (targets headers.now) number }
+{
+    match headers.get(number) {
+        Some(held) => held,
+        None => {
+            let none: &[Name] = &[];
+            none
+        }
+    }
+}
+
 // Of sections of these names, which are numbered in order from 0 and have these traits; the first are those of the script.
 fn facts_with<'a>(
     alloc: Global,
     sections: &[&'a Section],
+    headers: &[&'a [Name]],
     traits: &SectionTraits,
     names: &[&'a Name],
 ) -> Result<Items<Facts<'a>>, NoMemory>
-    ensures { IfOk result (λ facts. shown_all facts ≡ facts_with (targets sections.now) (traits_at traits.now) 0 (targets names.now)) }
+    ensures { IfOk result (λ facts. shown_all facts ≡ facts_with (targets sections.now) (targets headers.now) (traits_at traits.now) 0 (targets names.now)) }
 {
     let mut facts = Items::new(alloc);
     for (number, name) in names.iter().enumerate() {
         let section = section_at(sections, number);
         let own = traits.get(number);
-        push_section(&mut facts, name, section, &own)?;
+        push_section(&mut facts, name, section, headers_at(headers, number), &own)?;
     }
     Ok(facts)
 }
 
-/// What is said of sections of these names, which are numbered in order from 0, by the sections of the script, the rows and
-/// the fate of each. Fails where memory runs out.
+/// What is said of sections of these names, which are numbered in order from 0, by the sections of the script, the headers
+/// that hold each, the rows and the fate of each. Fails where memory runs out.
 pub fn find_facts<'a>(
     alloc: Global,
     sections: &[&'a Section],
+    headers: &[&'a [Name]],
     rows: &[InputRow],
     fates: &[Option<Kept>],
     names: &[&'a Name],
 ) -> Result<Items<Facts<'a>>, NoMemory>
     requires { length fates.now ≡ length rows.now }
-    ensures { IfOk result (λ facts. shown_all facts ≡ spec.facts_from (targets sections.now) rows.now fates.now 0 (targets names.now)) }
+    ensures { IfOk result (λ facts. shown_all facts ≡ spec.facts_from (targets sections.now) (targets headers.now) rows.now fates.now 0 (targets names.now)) }
 {
     let traits = find_traits(alloc, rows, fates)?;
-    facts_with(alloc, sections, &traits, names)
+    facts_with(alloc, sections, headers, &traits, names)
 }
 
 /// The alignment of each section.

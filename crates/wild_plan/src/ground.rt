@@ -160,7 +160,8 @@ pub fn find_basis<'a>(
     let fates = definitions.script_fates.fates.as_slice();
     let names = definitions.script_fates.names.as_slice();
     let sections = definitions.script_fates.sections.as_slice();
-    let facts = find_facts(alloc, sections, rows, fates, names)?;
+    let headers = definitions.script_fates.section_headers.as_slice();
+    let facts = find_facts(alloc, sections, headers, rows, fates, names)?;
     let alignments = alignments_in(alloc, facts.as_slice())?;
     let chunks = find_chunks(alloc, rows, fates)?;
     Ok(Basis {

@@ -14,6 +14,7 @@ mod lists;
 mod overlap;
 mod pipeline;
 mod points;
+mod segments;
 mod symbols;
 mod traits;
 mod walk;
@@ -22,6 +23,6 @@ pub use lists::Plan;
 pub use pipeline::plan;
 pub use wild_plan_spec::{
     InputRow, InputRows, InputTable, Names, PlacedInput, PlacedLocation, PlacedSection,
-    PlacedSymbol, PlanOptions, SymbolRow, SymbolRows,
+    PlacedSegment, PlacedSymbol, PlanOptions, SectionIndexes, SymbolRow, SymbolRows,
 };
 pub use wild_plan_text::{address_text, fault_text, name_text};

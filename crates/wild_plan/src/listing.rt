@@ -23,6 +23,17 @@ fn region_of(alloc: Global, region: Option<&Name>) -> Result<Option<Name>, NoMem
     }
 }
 
+// Copies of names.
+fn copies_of(alloc: Global, names: &[Name]) -> Result<Names, NoMemory>
+    ensures { IfOk result (λ copies. copies ≡ names.now) }
+{
+    let mut copies = Names::new(alloc);
+    for name in names {
+        copies.push(name.copy(alloc)?)?;
+    }
+    Ok(copies)
+}
+
 // The section of this number.
 fn placed_section(
     alloc: Global,
@@ -34,6 +45,7 @@ fn placed_section(
 {
     let name = facts.name.copy(alloc)?;
     let region = region_of(alloc, facts.region)?;
+    let headers = copies_of(alloc, facts.headers)?;
     let start = addresses.start(number);
     Ok(PlacedSection {
         name,
@@ -44,7 +56,7 @@ fn placed_section(
         flags: facts.flags,
         fill: facts.fill,
         region,
-        headers: Names::new(alloc),
+        headers,
         counted: !facts.floating,
     })
 }

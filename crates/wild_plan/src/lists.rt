@@ -9,7 +9,9 @@ use sqlite_items::Items;
 use std::alloc::Global;
 use std::marker::Model;
 use wild_base::{Name, NoMemory};
-use wild_plan_spec::{PlacedInput, PlacedLocation, PlacedSection, PlacedSymbol, RowNames};
+use wild_plan_spec::{
+    PlacedInput, PlacedLocation, PlacedSection, PlacedSegment, PlacedSymbol, RowNames,
+};
 use wild_plan_text::lines_text;
 use wild_script::LinkerScript;
 
@@ -19,6 +21,9 @@ pub struct Lists {
     pub sections: Items<PlacedSection>,
     pub placements: Items<PlacedInput>,
     pub locations: Items<PlacedLocation>,
+    pub segments: Items<PlacedSegment>,
+    /// The segments are those of program headers.
+    pub by_headers: bool,
     pub symbols: Items<PlacedSymbol>,
     pub names: Items<RowNames>,
 }
@@ -39,7 +44,7 @@ impl Model for Plan {
 
     ghost coded = { Prim.hlevel (codes, command.the_row.coded) };
 
-    ghost view = { λ p. record { commands = p.script.commands; sections = p.lists.sections; placements = p.lists.placements; locations = p.lists.locations; symbols = p.lists.symbols; names = p.lists.names } };
+    ghost view = { λ p. record { commands = p.script.commands; sections = p.lists.sections; placements = p.lists.placements; locations = p.lists.locations; segments = p.lists.segments; by_headers = p.lists.by_headers; symbols = p.lists.symbols; names = p.lists.names } };
 }
 
 impl Plan {
@@ -78,6 +83,13 @@ impl Plan {
         self.lists.locations.as_slice()
     }
 
+    /// The segments: those of the program headers, in order; or else those of each kind, by their first sections, and the stack.
+    pub fn segments(&self) -> &[PlacedSegment]
+        ensures { result.now ≡ self.now.segments }
+    {
+        self.lists.segments.as_slice()
+    }
+
     /// The symbols of the table in table order, then those of the script in text order.
     pub fn symbols(&self) -> &[PlacedSymbol]
         ensures { result.now ≡ self.now.symbols }
@@ -101,8 +113,8 @@ impl Plan {
         &self.lists.names.as_slice()[row].section
     }
 
-    /// The plan as it is printed: a line for each section, then for each row, then for each location, then for
-    /// each symbol.
+    /// The plan as it is printed: a line for each section, then for each row, then for each location, then for each
+    /// segment, then for each symbol. Without program headers the segments without sections have no line.
     pub fn plan_text(&self, alloc: Global) -> Result<Name, NoMemory>
         ensures { IfOk result (λ text. text ≡ plan_text self.now) }
     {
@@ -112,6 +124,8 @@ impl Plan {
             self.placements(),
             self.lists.names.as_slice(),
             self.locations(),
+            self.segments(),
+            self.lists.by_headers,
             self.symbols(),
         )
     }

@@ -15,6 +15,7 @@ use crate::ends::End;
 use crate::ground::{Ground, find_basis, ground_on};
 use crate::listing::{placed_inputs, placed_sections, row_names};
 use crate::lists::{Lists, Plan};
+use crate::segments::{Segments, find_case_segments};
 use crate::symbols::table_symbols;
 use crate::walk::{Walk, lay_out};
 use sqlite_items::Items;
@@ -23,7 +24,7 @@ use wild_base::{Fault, NoMemory};
 use wild_plan_spec::{InputTable, Kept, PlacedSymbol, PlanOptions};
 use wild_script::LinkerScript;
 
-/// Plans the rows and symbols of a table by a script. No option has a meaning yet.
+/// Plans the rows and symbols of a table by a script, for what the options say.
 pub fn plan(
     alloc: Global,
     script: &[u8],
@@ -46,14 +47,15 @@ pub fn plan(
     Ok(Plan::new(tree, lists))
 }
 
-/// The lists of the plan of a case: its checks and fates, what its rows say of sections and chunks, the walk, the symbols and
-/// conditions, and what is then listed.
+/// The lists of the plan of a case: its checks and fates, what its rows say of sections and chunks, the segments, the walk, the
+/// symbols and conditions, and what is then listed.
 fn script_lists(alloc: Global, case: &Case<'_>) -> Result<Lists, Fault>
     ensures fits { IfOk result (λ l. Fits (shown_case case.now) (shown_lists case.now.commands.now l)) }
     ensures refused { IfErr result (λ f. (f ≡ fault.NoMemory) ⊎ FaultIn (shown_case case.now) f) }
 {
     let definitions = check(alloc, case)?;
     let basis = find_basis(alloc, case, &definitions)?;
+    let segments = find_case_segments(alloc, case, &definitions, basis.facts.as_slice())?;
     let ground = ground_on(alloc, case, &definitions, &basis);
     let places = definitions.script_fates.places.as_slice();
     let walk = lay_out(&ground, places)?;
@@ -63,19 +65,20 @@ fn script_lists(alloc: Global, case: &Case<'_>) -> Result<Lists, Fault>
     };
     let found = end.final_symbols(places)?;
     let fates = definitions.script_fates.fates.as_slice();
-    let lists = list_all(&ground, case.inputs, fates, walk, found)?;
+    let lists = list_all(&ground, segments, case.inputs, fates, walk, found)?;
     Ok(lists)
 }
 
-/// What a plan lists once all places are laid out, and these are the symbols of the script.
+/// What a plan lists once all places are laid out, and these are the segments, and the symbols of the script.
 fn list_all(
     ground: &Ground<'_>,
+    segments: Segments,
     inputs: &InputTable,
     fates: &[Option<Kept>],
     walk: Walk,
     found: Items<PlacedSymbol>,
 ) -> Result<Lists, NoMemory>
-    ensures { IfOk result (AreLists inputs.now fates.now (shown_all ground.now.facts.now) (state_of walk) found) }
+    ensures { IfOk result (AreLists segments inputs.now fates.now (shown_all ground.now.facts.now) (state_of walk) found) }
 {
     let alloc = ground.alloc;
     let addresses = &walk.addresses;
@@ -88,6 +91,8 @@ fn list_all(
         sections,
         placements,
         locations: walk.locations,
+        segments: segments.list,
+        by_headers: segments.by_headers,
         symbols,
         names,
     })

@@ -1,14 +1,16 @@
 //! Names, numbers and plans as they are printed.
 
-ghost use Rattle.std.specs.Prelude.{◌≡◌, ◌++◌, ◌∷◌, OnOk, IfOk, string_bytes, decimal, flat_map};
-ghost use Rattle.wild_plan_spec.specs.Text.{is_plain, printed_byte, printed_name, printed_address, field, letters_of, printed_flags, printed_fill, printed_region, more_names, printed_names, name_at, section_line, input_line, input_lines, location_line, printed_holder, printed_visibility, symbol_line};
+ghost use Rattle.std.specs.Prelude.{◌≡◌, ◌++◌, ◌∷◌, OnOk, IfOk, string_bytes, decimal, flat_map, map};
+ghost use Rattle.wild_plan_spec.specs.Text.{is_plain, printed_byte, printed_name, printed_address, field, letters_of, printed_flags, printed_fill, printed_region, more_names, printed_names, name_at, section_line, input_line, input_lines, location_line, printed_sections, printed_type, segment_line, segment_lines_of, printed_holder, printed_visibility, symbol_line};
 ghost use Rattle.wild_plan_text.specs.Letters.{letter_in};
 
 use bitflags::Flags;
 use std::alloc::{AllocError, Global};
 use std::fmt::Write;
 use wild_base::{InputFlags, Name, NoMemory};
-use wild_plan_spec::{PlacedInput, PlacedLocation, PlacedSection, PlacedSymbol, RowNames};
+use wild_plan_spec::{
+    PlacedInput, PlacedLocation, PlacedSection, PlacedSegment, PlacedSymbol, RowNames,
+};
 
 /// A name as it is printed: visible bytes as they are, any other, a backslash and a comma as `\x` and two hexadecimal
 /// digits. The empty name is `-`, and the name `-` is `\x2d`. Fails where memory runs out.
@@ -30,21 +32,25 @@ pub fn address_text(alloc: Global, value: u64) -> Result<Name, NoMemory>
 }
 
 /// The text of a plan that lists these: a line for each section, then for each row, then for each location, then for each
-/// symbol. The names are those of the rows, in table order.
+/// segment, then for each symbol. The names are those of the rows, in table order. Where the segments are not those of program
+/// headers, those without sections have no line.
 pub fn lines_text(
     alloc: Global,
     sections: &[PlacedSection],
     placements: &[PlacedInput],
     names: &[RowNames],
     locations: &[PlacedLocation],
+    segments: &[PlacedSegment],
+    by_headers: bool,
     symbols: &[PlacedSymbol],
 ) -> Result<Name, NoMemory>
-    ensures { IfOk result (λ text. text ≡ flat_map section_line sections.now ++ input_lines sections.now 0 placements.now names.now ++ flat_map location_line locations.now ++ flat_map (symbol_line sections.now) symbols.now) }
+    ensures { IfOk result (λ text. text ≡ flat_map section_line sections.now ++ input_lines sections.now 0 placements.now names.now ++ flat_map location_line locations.now ++ flat_map (segment_lines_of by_headers sections.now) segments.now ++ flat_map (symbol_line sections.now) symbols.now) }
 {
     let mut out = String::new(alloc);
     push_section_lines(&mut out, sections)?;
     push_input_lines(&mut out, sections, placements, names)?;
     push_location_lines(&mut out, locations)?;
+    push_segment_lines(&mut out, sections, segments, by_headers)?;
     push_symbol_lines(&mut out, sections, symbols)?;
     Ok(name_of(out))
 }
@@ -321,6 +327,115 @@ fn push_location_line(out: &mut String, location: &PlacedLocation) -> Result<(),
     push_number_field(out, location.statement as u64)?;
     push_address_field(out, location.address)?;
     out.push('\n')
+}
+
+// Appends a blank and the type of a segment.
+#[tactic(auto, using(crate::proofs::Texts::texts))]
+fn push_type_field(out: &mut String, ptype: u32) -> Result<(), AllocError>
+    ensures { OnOk result (string_bytes out.new ≡ string_bytes out.old ++ field (printed_type ptype)) }
+{
+    write!(out, " 0x{ptype:08x}")
+}
+
+// The name of the section at an index, or no bytes where there is none.
+fn name_at(sections: &[PlacedSection], index: usize) -> &[u8]
+    ensures { result.now ≡ name_at sections.now index }
+{
+    match sections.get(index) {
+        Some(section) => section.name.bytes(),
+        None => {
+            let none: &[u8] = &[];
+            none
+        }
+    }
+}
+
+fn push_joined_section(
+    out: &mut String,
+    sections: &[PlacedSection],
+    index: usize,
+) -> Result<(), AllocError>
+    ensures { OnOk result (string_bytes out.new ≡ string_bytes out.old ++ 44 ∷ printed_name (name_at sections.now index)) }
+{
+    out.push(',')?;
+    push_name(out, name_at(sections, index))
+}
+
+fn push_more_sections(
+    out: &mut String,
+    sections: &[PlacedSection],
+    held: &[usize],
+) -> Result<(), AllocError>
+    ensures { OnOk result (string_bytes out.new ≡ string_bytes out.old ++ more_names (map (name_at sections.now) held.now)) }
+{
+    for index in held {
+        push_joined_section(out, sections, *index)?;
+    }
+    Ok(())
+}
+
+// Appends a blank and the names of the sections at these indexes, joined by commas.
+fn push_sections_field(
+    out: &mut String,
+    sections: &[PlacedSection],
+    held: &[usize],
+) -> Result<(), AllocError>
+    ensures { OnOk result (string_bytes out.new ≡ string_bytes out.old ++ field (printed_sections sections.now held.now)) }
+{
+    match held {
+        [] => out.push_str(" -"),
+        [first, more @ ..] => {
+            push_name_field(out, name_at(sections, *first))?;
+            push_more_sections(out, sections, more)
+        }
+    }
+}
+
+#[tactic(auto, unfolding(wild_plan_spec::specs::Text::segment_line))]
+fn push_segment_line(
+    out: &mut String,
+    sections: &[PlacedSection],
+    segment: &PlacedSegment,
+) -> Result<(), AllocError>
+    ensures { OnOk result (string_bytes out.new ≡ string_bytes out.old ++ segment_line sections.now segment.now) }
+{
+    out.push_str("segment")?;
+    push_type_field(out, segment.ptype)?;
+    push_number_field(out, u64::from(segment.flags))?;
+    push_name_field(out, segment.name.bytes())?;
+    push_sections_field(out, sections, segment.sections.as_slice())?;
+    out.push('\n')
+}
+
+// The line of a segment, if it has one.
+fn push_segment(
+    out: &mut String,
+    sections: &[PlacedSection],
+    segment: &PlacedSegment,
+    by_headers: bool,
+) -> Result<(), AllocError>
+    ensures { OnOk result (string_bytes out.new ≡ string_bytes out.old ++ segment_lines_of by_headers sections.now segment.now) }
+{
+    if by_headers || !segment.sections.as_slice().is_empty() {
+        push_segment_line(out, sections, segment)
+    } else {
+        Ok(())
+    }
+}
+
+#[tactic(auto, using(std::proofs::lemmas::List::flat_map_more))]
+fn push_segment_lines(
+    out: &mut String,
+    sections: &[PlacedSection],
+    segments: &[PlacedSegment],
+    by_headers: bool,
+) -> Result<(), AllocError>
+    ensures { OnOk result (string_bytes out.new ≡ string_bytes out.old ++ flat_map (segment_lines_of by_headers sections.now) segments.now) }
+{
+    for segment in segments {
+        push_segment(out, sections, segment, by_headers)?;
+    }
+    Ok(())
 }
 
 #[tactic(auto, using(std::proofs::lemmas::List::flat_map_more))]

@@ -7,7 +7,7 @@ use Rattle.wild_plan_spec.specs.Definitions.{provided_entries}
 use Rattle.wild_plan.specs.Case.{shown_case}
 use Rattle.wild_plan.specs.Entries.{shown_entries}
 use Rattle.wild_plan.proofs.Defined.{names_same, entries_complete, names_complete}
-use Rattle.wild_plan.proofs.Phases.{table_fails, script_fails, names_fail, all_hold}
+use Rattle.wild_plan.proofs.Phases.{table_fails, script_fails, names_fail}
 use Rattle.wild_plan.proofs.check.check.Goals as goal
 
 pub returns-in_err-check_table-clause-failing : goal.returns-in_err-check_table-clause-failing
@@ -40,7 +40,9 @@ returns-clause-sound c =
     let firm = ap shown_entries c.as_slice.ensures ∙ (rw (c.as_slice-fates.ensures, c.as_slice-symbols.ensures, c.as_slice-places.ensures) at c.in_ok-entries.ensures) in
     let names = rw (names_same case _ fates _ firm) at c.in_ok-names.ensures.passes.ok in
     record {
-      sound = all_hold case table script names;
+      table = table;
+      script = script;
+      symbols = names;
       fates = fates;
       entries = entries_complete case _ fates _ firm _
           ((rw c.as_slice-places.ensures at c.in_ok-push_provided_entries.ensures.entries)
