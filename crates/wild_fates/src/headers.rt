@@ -71,7 +71,10 @@ fn check_number(statement: usize, index: usize, number: &Expression) -> Result<u
     let value = number_or_fault(statement, number)?;
     match u32::try_from(value) {
         Ok(number) => Ok(number),
-        Err(_) => Err(Fault::BadHeader { index, value }),
+        Err(_) => Err(Fault::BadHeader {
+            index: index as u64,
+            value,
+        }),
     }
 }
 
