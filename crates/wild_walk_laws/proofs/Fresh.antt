@@ -95,5 +95,5 @@ fresh_passes ground places = record {
   moved = λ s i n e st there low h. h;
   opened = λ i s n m st begins h. opened_fresh i s n m st h;
   placed = λ s q st next own goes h. chunk_fresh s (ground.rows q) st next goes h;
-  ended = λ s counter st alone h. fresh_on (Inside s) (Free (s + 1)) (End s) st.cursor st.known (omega arith) (omega arith) h;
+  ended = λ s counter regions st inside alone h. fresh_on (Inside s) (Free (s + 1)) (End s) st.cursor st.known (omega arith) (omega arith) h;
 }

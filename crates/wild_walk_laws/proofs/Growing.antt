@@ -25,7 +25,7 @@ use Rattle.wild_plan_spec.specs.Places.{Place, SetLocation, Wait, Open, Collect,
 use Rattle.wild_plan_spec.specs.Points.{location_point}
 use Rattle.wild_plan_spec.specs.Scopes.{scope_of}
 use Rattle.wild_plan_spec.specs.Settled.{LocationSettles}
-use Rattle.wild_plan_spec.specs.Steps.{State, row_placed, rows_placed, chunk_placed, chunk_collected, section_ended_alone, section_ended_after, section_closed, dot_before, dot_noted, effect, step}
+use Rattle.wild_plan_spec.specs.Steps.{State, row_placed, rows_placed, chunk_placed, chunk_collected, section_ended_inside, section_ended_after, section_closed, dot_before, dot_noted, effect, step}
 use Rattle.wild_plan_spec.specs.Walk.{Stands}
 use Rattle.wild_plan_spec.proofs.Standing.{place_at}
 use Rattle.wild_walk_laws.specs.Holding.{IsKnown}
@@ -79,8 +79,8 @@ pub opened_part : (i s n m : ℕ) (st : State) → IsPart st.known (opened_at i 
 opened_part i s n m st x k e = grown_entry (Load s) m (started_at i s n st).known x k (started_part i s n st x k e)
 
 module _ (ground : Ground) where
-  pub end_grows : (s : ℕ) (st next : State) → section_ended_alone ground s st ≡ Ok next → Grows st next
-  end_grows s st next e = by_end (Grows st) ground s st next e (λ alone counter. record { known = grown_entry (End s) st.cursor st.known; locations = whole st.locations })
+  pub end_grows : (s : ℕ) (st next : State) → section_ended_inside ground s st ≡ Ok next → Grows st next
+  end_grows s st next e = by_end (Grows st) ground s st next e (λ inside alone counter regions. record { known = grown_entry (End s) st.cursor st.known; locations = whole st.locations })
 
   pub effect_grows : (i : ℕ) (p : Place) (st next : State) → effect ground i p st ≡ Ok next → Grows st next
   unfolding effect chunk_collected section_closed section_ended_after
@@ -93,7 +93,7 @@ module _ (ground : Ground) where
   effect_grows i (Rows q) st next goes = chunk_grows (ground.rows q) st next goes
   effect_grows i (Close s None) st next goes = end_grows s st next goes
   effect_grows i (Close s (Some q)) st next goes =
-      let first = bind_ok (chunk_placed (ground.rows q) st) (section_ended_alone ground s) next goes in
+      let first = bind_ok (chunk_placed (ground.rows q) st) (section_ended_inside ground s) next goes in
       grows_on st first.0 next (chunk_grows (ground.rows q) st first.0 first.1) (end_grows s first.0 next first.2)
   effect_grows i (Collect None m) st next goes = by_state (Grows st) st next goes (grows_not st)
   effect_grows i (Wait w task) st next goes = by_state (Grows st) st next goes (grows_not st)

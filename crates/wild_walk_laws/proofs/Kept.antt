@@ -27,7 +27,7 @@ use Rattle.wild_plan_spec.specs.Orphans.{orphan_places, places_of}
 use Rattle.wild_plan_spec.specs.Places.{Place, Collect, Rows, Close, script_places}
 use Rattle.wild_plan_spec.specs.Rules.{Rule, rule_of, pattern_decision, pattern_rules, place_rules, rules_in, rules_of, takes_row, first_rule}
 use Rattle.wild_plan_spec.specs.Statements.{sections_of}
-use Rattle.wild_plan_spec.specs.Steps.{State, row_placed, rows_placed, chunk_placed, chunk_collected, section_ended_alone, section_ended_after, section_closed, dot_noted, effect, step}
+use Rattle.wild_plan_spec.specs.Steps.{State, row_placed, rows_placed, chunk_placed, chunk_collected, section_ended_inside, section_ended_after, section_closed, dot_noted, effect, step}
 use Rattle.wild_walk_laws.specs.Holding.{IsKnown}
 use Rattle.wild_walk_laws.proofs.Chunked.{kept_among}
 use Rattle.wild_walk_laws.proofs.Entries.{known_entry}
@@ -156,7 +156,7 @@ module _ (r : ℕ) where
     effect_addressed i (Rows own) st next lays goes = chunk_addressed own st next lays goes
     effect_addressed i (Close s None) st next lays goes = absurd (cc)
     effect_addressed i (Close s (Some own)) st next lays goes =
-        let first = bind_ok (chunk_placed (ground.rows own) st) (section_ended_alone ground s) next goes in
+        let first = bind_ok (chunk_placed (ground.rows own) st) (section_ended_inside ground s) next goes in
         address_stays first.0 next (end_grows ground s first.0 next first.2) (chunk_addressed own st first.0 (cc) first.1)
     effect_addressed i p st next lays goes = absurd lays
 

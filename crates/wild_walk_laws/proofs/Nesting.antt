@@ -99,6 +99,10 @@ statement_brings : (n : ℕ) (x : Statement) → Brings n (statement_places n x)
 statement_brings n (Inner (inner.Section x)) = section_or_discard (is_discard x) n x
 statement_brings n (Inner c) = none_bring n _ (Free n, refl, refl)
 statement_brings n (Outer (command.Sections c)) = none_bring n [] refl
+statement_brings n (Outer (command.SymbolDefinition name value)) = none_bring n _ (Free n, (refl, refl), refl)
+statement_brings n (Outer (command.SetLocation l)) = none_bring n _ (Free n, (refl, refl), refl)
+statement_brings n (Outer (command.Provide d)) = none_bring n _ (Free n, (refl, refl), refl)
+statement_brings n (Outer (command.Assert c)) = none_bring n _ (Free n, (refl, refl), refl)
 statement_brings n (Outer c) = none_bring n _ (Free n, refl, refl)
 
 numbered_by : (b : Bool) (n : ℕ) (x : Section) (m : ℕ) → cond b n (n + 1) + m ≡ n + (length (cond b [] (x ∷ [])) + m)
@@ -183,6 +187,13 @@ holds_below (Inside u) s task y turn =
     let next = ap next_number turn.1 in
     omega (arith, same, next)
 
+stands_behind : (x : Zone) (s : ℕ) (task : Task) (y : Zone) → Turns x (Wait (stand.Outermost s) task) y → s ≤ next_number y
+stands_behind (Free n) s task y turn =
+    let same = turn.0 in
+    let next = ap next_number turn.1 in
+    omega (arith, same, next)
+stands_behind (Inside u) s task y turn = absurd turn
+
 -- ---- orphans
 
 orphan_brings : (n : ℕ) → Brings n (Open n None ∷ Rows (first_of n) ∷ Close n None ∷ []) (n + 1)
@@ -227,6 +238,14 @@ module _ (t : List Command) (inputs : InputTable) where
   held_below i s task there =
       let at = turned (places_of t inputs) (Free 0) (Free (length (section_names t inputs))) places_nest i (Wait (stand.Inside s) task) there in
       let low = holds_below at.from s task at.to at.turn in
+      let high = nests_rise at.rest at.to (Free (length (section_names t inputs))) at.nests in
+      omega (arith, low, high)
+
+  -- a task outside of SECTIONS stands behind as many sections as it says
+  pub behind_all : (i s : ℕ) (task : Task) → slice_get (places_of t inputs) i ≡ Some (Wait (stand.Outermost s) task) → s ≤ length (section_names t inputs)
+  behind_all i s task there =
+      let at = turned (places_of t inputs) (Free 0) (Free (length (section_names t inputs))) places_nest i (Wait (stand.Outermost s) task) there in
+      let low = stands_behind at.from s task at.to at.turn in
       let high = nests_rise at.rest at.to (Free (length (section_names t inputs))) at.nests in
       omega (arith, low, high)
 

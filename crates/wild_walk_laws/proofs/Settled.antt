@@ -25,7 +25,7 @@ use Rattle.wild_plan_spec.specs.Layout.{Layout, placed_section}
 use Rattle.wild_plan_spec.specs.Names.{Name}
 use Rattle.wild_plan_spec.specs.Orphans.{places_of}
 use Rattle.wild_plan_spec.specs.Places.{Place, SetLocation, Wait, Open, Assign, Provide, Check}
-use Rattle.wild_plan_spec.specs.Points.{task_point}
+use Rattle.wild_plan_spec.specs.Points.{task_point, condition_point}
 use Rattle.wild_plan_spec.specs.Scopes.{scope_of}
 use Rattle.wild_plan_spec.specs.Settled.{ConditionSettles, IsListed, IsSettled, LoadSettles, LocationSettles, StartSettles, SymbolSettles}
 use Rattle.wild_plan_spec.specs.Symbols.{assignment_symbol, is_at, listed_symbol, place_symbol, script_symbol, symbols, table_symbols, task_symbol}
@@ -92,14 +92,14 @@ module _ (scope : Scope) (known : Known) where
   -- a symbol is listed with what its expression is worth
   record Worth (i : ℕ) (w : Where) (name : Name) (e : Expression) (hidden : Bool) (found : List PlacedSymbol) : Type 0 where
     address : ℕ
-    worth : full_value scope i known (name ∷ []) e (task_point i w) ≡ Ok address
+    worth : full_value scope i known (name ∷ []) e (task_point i w e) ≡ Ok address
     listed : IsListed (script_symbol w name hidden address) found
 
   listed_worth : (i : ℕ) (w : Where) (name : Name) (e : Expression) (hidden : Bool) (p : Place) (found : List PlacedSymbol)
       → place_symbol scope known i p ≡ listed_symbol scope known i w name e hidden → Lists i p found → Worth i w name e hidden found
   unfolding listed_symbol
   listed_worth i w name e hidden p found is lists =
-      let first = bind_ok (full_value scope i known (name ∷ []) e (task_point i w)) _ lists.0 (sym is ∙ lists.1) in
+      let first = bind_ok (full_value scope i known (name ∷ []) e (task_point i w e)) _ lists.0 (sym is ∙ lists.1) in
       let both = first.2 in
       let same : lists.0 ≡ Some (script_symbol w name hidden first.0) = cc in
       record { address = first.0; worth = first.1; listed = lists.2 (script_symbol w name hidden first.0) same }
@@ -112,10 +112,10 @@ module _ (scope : Scope) (known : Known) where
       let zero_is = eq-eqb x.number 0 number in
       cc
 
-  condition_nonzero : (i : ℕ) (w : Where) (k : AssertCommand) (v : Value) → assert_statement scope i known k (task_point i w) ≡ Ok v → v.number ≢ 0
+  condition_nonzero : (i : ℕ) (w : Where) (k : AssertCommand) (v : Value) → assert_statement scope i known k (condition_point i w) ≡ Ok v → v.number ≢ 0
   unfolding assert_statement assert_value
   condition_nonzero i w k v e =
-      let first = bind_ok (value scope i known (max_height - 1) [] k.expression (task_point i w)) _ v e in
+      let first = bind_ok (value scope i known (max_height - 1) [] k.expression (condition_point i w)) _ v e in
       nonzero_by (first.0.number == 0) first.0 (AssertFailed (scope.line k.at) k.message) v refl first.2
 
 -- ---- plans
@@ -172,7 +172,7 @@ module _ (c : Case) (plan : Layout) (f : Fits c plan) where
       let z : 0 + i ≡ i = omega arith in
       let all = conditions_hold scope known 0 places final.1 i (Wait w (Check k)) there in
       let holds = rw z at all in
-      let found = bind_ok (assert_statement scope i known k (task_point i w)) (λ x. Ok tt) tt holds in
+      let found = bind_ok (assert_statement scope i known k (condition_point i w)) (λ x. Ok tt) tt holds in
       record { value = found.0; worth = found.1; holds = condition_nonzero scope known i w k found.0 found.1 }
 
   location_settles : (i : ℕ) (s : Option ℕ) (e : Expression) → slice_get places i ≡ Some (SetLocation s e) → LocationSettles c known plan i s e

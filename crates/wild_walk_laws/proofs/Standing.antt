@@ -106,6 +106,6 @@ rows_stand_in_place c state f =
       moved = λ s i n e st there low h. h;
       opened = λ i s n m st begins h. stays rows fates st.known (opened_at i s n m st).known (opened_address i s n m st) h;
       placed = λ s q st next own goes h. chunk_stands rows fates (f.order q) st next (λ i d low. (chunk_rows rows fates q (f.order q) (f.ordered q) i d low).0) (f.ordered q).sorted goes h;
-      ended = λ s counter st alone h. stays rows fates st.known (ended_at s counter st).known (λ r. other_entry (End s) st.cursor st.known (Address r) refl) h;
+      ended = λ s counter regions st inside alone h. stays rows fates st.known (ended_at s counter regions st).known (λ r. other_entry (End s) st.cursor st.known (Address r) refl) h;
     })
     (λ r row a there at. absurd (cc))

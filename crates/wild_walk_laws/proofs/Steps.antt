@@ -16,7 +16,7 @@ use Rattle.wild_plan_spec.specs.declared.chunk.ChunkRow.{ChunkRow}
 use Rattle.wild_plan_spec.specs.Chunks.{largest}
 use Rattle.wild_plan_spec.specs.Ground.{Ground}
 use Rattle.wild_plan_spec.specs.Points.{location_point, start_point, load_point}
-use Rattle.wild_plan_spec.specs.Steps.{State, up, row_placed, rows_placed, chunk_placed, start_by, start_found, section_started, load_by, load_found, section_loaded, section_begun, section_opened, cursor_set, section_ended, section_closed_by, overlapped, section_ended_alone, counter_set}
+use Rattle.wild_plan_spec.specs.Steps.{State, up, row_placed, rows_placed, chunk_placed, counter_in, with_counter, region_in, start_by, start_found, section_started, load_by, load_found, section_loaded, section_begun, section_opened, cursor_set, is_floating, section_ended_by, section_ended, section_closed_by, overlapped, section_ended_alone, leaves_region, section_ended_inside, counter_set}
 
 -- ---- multiples
 
@@ -86,15 +86,15 @@ cursor_at i n st = record st { cursor = n; locations = st.locations ++ record { 
 abbrev pub row_at : ChunkRow → ℕ → State → State
 row_at c n st = record st { cursor = n; known = with_number (Address c.row) st.cursor st.known }
 
--- section s ends at the cursor, and the counter is this
-abbrev pub ended_at : ℕ → ℕ → State → State
-ended_at s counter st = record st { counter = counter; known = with_number (End s) st.cursor st.known }
+-- section s ends at the cursor, and the counter and those of the regions are these
+abbrev pub ended_at : ℕ → ℕ → List ℕ → State → State
+ended_at s counter regions st = record st { counter = counter; regions = regions; known = with_number (End s) st.cursor st.known }
 
 -- place i opens section s, which starts at n and is loaded at m
 pub record Begins (ground : Ground) (i s n m : ℕ) (st : State) : Type 0 where
   pub starts : (e : Expression) → (ground.facts s).start ≡ Some e → full_value ground.scope i st.known [] e (start_point i) ≡ Ok n
   pub floats : (ground.facts s).start ≡ None → (ground.facts s).floating ≡ true → n ≡ 0
-  pub rounds : (ground.facts s).start ≡ None → (ground.facts s).floating ≡ false → IsUp st.counter (ground.facts s).alignment n
+  pub rounds : (ground.facts s).start ≡ None → (ground.facts s).floating ≡ false → IsUp (counter_in (region_in ground s) st) (ground.facts s).alignment n
   pub loads : (e : Expression) → (ground.facts s).load ≡ Some e → full_value ground.scope i (started_at i s n st).known [] e (load_point i) ≡ Ok m
   pub stays : (ground.facts s).load ≡ None → m ≡ n
 
@@ -151,20 +151,39 @@ module _ (P : State → Type 0) where
         let load = λ (o : Option Expression) (same : f.load ≡ o). subst (λ p. load_by ground i p n (started_at i s n st) ≡ Ok second.0) same second.1 in
         by_state (opened_at i s n second.0 st) next second.2 (h n second.0 (record {
           starts = λ x same. start (Some x) same;
-          floats = λ none b. floated_by f.floating (up st.counter f.alignment) n (start None none) b;
-          rounds = λ none b. rounded_by f.floating st.counter f.alignment n (start None none) b;
+          floats = λ none b. floated_by f.floating (up (counter_in (region_in ground s) st) f.alignment) n (start None none) b;
+          rounds = λ none b. rounded_by f.floating (counter_in (region_in ground s) st) f.alignment n (start None none) b;
           loads = λ x same. load (Some x) same;
           stays = λ none. let same : Ok n ≡ Ok second.0 = load None none in cc;
         }))
 
-    by_sharing : (s : ℕ) (o : Option ℕ) (st next : State) → section_closed_by ground s o st ≡ Ok next → (o ≡ None → (counter : ℕ) → P (ended_at s counter st)) → P next
+    -- whatever the counters become
+    abbrev Ended : ℕ → State → Type 0
+    Ended s st = (counter : ℕ) (regions : List ℕ) → P (ended_at s counter regions st)
+
+    by_floating : (b : Bool) (s : ℕ) (st next : State) → ◌≡◌ {A = Result State Fault} (Ok (section_ended_by ground b s st)) (Ok next) → Ended s st → P next
+    by_floating true s st next e h = by_state (ended_at s st.counter st.regions st) next e (h st.counter st.regions)
+    by_floating false s st next e h =
+        let regions = with_counter (region_in ground s) st.cursor st.regions in
+        by_state (ended_at s st.cursor regions st) next e (h st.cursor regions)
+
+    by_sharing : (s : ℕ) (o : Option ℕ) (st next : State) → section_closed_by ground s o st ≡ Ok next → (o ≡ None → Ended s st) → P next
     unfolding section_ended
-    by_sharing s None st next e h = let counter = cond (ground.facts s).floating st.counter st.cursor in by_state (ended_at s counter st) next e (h refl counter)
+    by_sharing s None st next e h = by_floating (is_floating ground s) s st next e (h refl)
     by_sharing s (Some other) st next e h = absurd (cc)
 
-    pub by_end : (s : ℕ) (st next : State) → section_ended_alone ground s st ≡ Ok next → (overlapped ground s st ≡ None → (counter : ℕ) → P (ended_at s counter st)) → P next
+    by_alone : (s : ℕ) (st next : State) → section_ended_alone ground s st ≡ Ok next → (overlapped ground s st ≡ None → Ended s st) → P next
     unfolding section_ended_alone
-    by_end s st next e h = by_sharing s _ st next e h
+    by_alone s st next e h = by_sharing s _ st next e h
+
+    by_leaving : (b : Bool) (f : Fault) (s : ℕ) (st next : State) → cond b (Err f) (section_ended_alone ground s st) ≡ Ok next → (b ≡ false → overlapped ground s st ≡ None → Ended s st) → P next
+    by_leaving true f s st next e h = absurd (cc)
+    by_leaving false f s st next e h = by_alone s st next e (h refl)
+
+    -- it leaves its region no more than it overlaps another section
+    pub by_end : (s : ℕ) (st next : State) → section_ended_inside ground s st ≡ Ok next → (leaves_region ground s st ≡ false → overlapped ground s st ≡ None → Ended s st) → P next
+    unfolding section_ended_inside
+    by_end s st next e h = by_leaving (leaves_region ground s st) _ s st next e h
 
     pub by_counter : (i : ℕ) (e : Expression) (st next : State) → counter_set ground i e st ≡ Ok next
         → ((n : ℕ) → full_value ground.scope i st.known [] e (location_point i None) ≡ Ok n → P (counter_at i n st)) → P next

@@ -1,5 +1,5 @@
 -- What holds before the first of nested places and goes over each step holds where all of them are laid out.
-use Rattle.std.proofs.Common.{◌≡◌, ◌∙◌, ℕ, zero, suc, ◌+◌, ◌≤◌, List, [], ◌∷◌, length, Some, None, Ok, refl, sym, ap, subst, arith}
+use Rattle.std.proofs.Common.{◌≡◌, ◌∙◌, ℕ, zero, suc, ◌+◌, ◌≤◌, false, List, [], ◌∷◌, length, Some, None, Ok, refl, sym, ap, subst, arith}
 use Rattle.std.specs.Prelude.{slice_get}
 use Rattle.wild_expression_tree.specs.declared.tree.Expression.{Expression}
 use Rattle.wild_plan_spec.specs.declared.chunk.Chunk.{Chunk}
@@ -10,7 +10,7 @@ use Rattle.wild_plan_spec.specs.Fit.{IsLaid}
 use Rattle.wild_plan_spec.specs.Ground.{Ground, ground_of}
 use Rattle.wild_plan_spec.specs.Orphans.{places_of}
 use Rattle.wild_plan_spec.specs.Places.{Place, SetLocation, Wait, Open, Collect, Rows, Close, Discard, Idle, Memory, Headers, Format}
-use Rattle.wild_plan_spec.specs.Steps.{State, first_state, chunk_placed, chunk_collected, section_opened, cursor_set, overlapped, section_ended_alone, section_ended_after, section_closed, dot_before, dot_noted, effect, step}
+use Rattle.wild_plan_spec.specs.Steps.{State, first_state, chunk_placed, chunk_collected, section_opened, cursor_set, overlapped, leaves_region, section_ended_inside, section_ended_after, section_closed, dot_before, dot_noted, effect, step}
 use Rattle.wild_plan_spec.specs.Walk.{Stands}
 use Rattle.wild_walk_laws.specs.Nesting.{Zone, Free, Inside, Turns, Nests}
 use Rattle.wild_walk_laws.proofs.Nesting.{places_nest}
@@ -29,8 +29,8 @@ module _ (ground : Ground) (places : List Place) (Holds : Zone → State → Typ
     pub opened : (i s n m : ℕ) (st : State) → Begins ground i s n m st → Holds (Free s) st → Holds (Inside s) (opened_at i s n m st)
     -- the rows of a chunk are placed
     pub placed : (s : ℕ) (q : Chunk) (st next : State) → q.«section» ≡ s → chunk_placed (ground.rows q) st ≡ Ok next → Holds (Inside s) st → Holds (Inside s) next
-    -- a section ends
-    pub ended : (s counter : ℕ) (st : State) → overlapped ground s st ≡ None → Holds (Inside s) st → Holds (Free (s + 1)) (ended_at s counter st)
+    -- a section ends, whatever the counters become
+    pub ended : (s counter : ℕ) (regions : List ℕ) (st : State) → leaves_region ground s st ≡ false → overlapped ground s st ≡ None → Holds (Inside s) st → Holds (Free (s + 1)) (ended_at s counter regions st)
 
   module _ (passes : Passes) where
     open passes use {noted, located, moved, opened, placed, ended}
@@ -46,9 +46,9 @@ module _ (ground : Ground) (places : List Place) (Holds : Zone → State → Typ
     moves i s u e st next same there goes h = by_cursor (Holds (Inside s)) ground i u e st next goes
         (λ n value low. moved s i n e st (subst (λ (v : ℕ). slice_get places i ≡ Some (SetLocation (Some v) e)) same there) low h)
 
-    ends : (s u : ℕ) (st next : State) → u ≡ s → section_ended_alone ground u st ≡ Ok next → Holds (Inside s) st → Holds (Free (s + 1)) next
+    ends : (s u : ℕ) (st next : State) → u ≡ s → section_ended_inside ground u st ≡ Ok next → Holds (Inside s) st → Holds (Free (s + 1)) next
     ends s u st next e goes h =
-        by_end (Holds (Free (s + 1))) ground s st next (subst (λ v. section_ended_alone ground v st ≡ Ok next) e goes) (λ alone counter. ended s counter st alone h)
+        by_end (Holds (Free (s + 1))) ground s st next (subst (λ v. section_ended_inside ground v st ≡ Ok next) e goes) (λ inside alone counter regions. ended s counter regions st inside alone h)
 
     effect_passes : (x : Zone) (p : Place) (y : Zone) (i : ℕ) (st next : State) → slice_get places i ≡ Some p → Turns x p y → effect ground i p st ≡ Ok next → Holds x st → Holds y next
     unfolding effect chunk_collected section_closed section_ended_after
@@ -69,7 +69,7 @@ module _ (ground : Ground) (places : List Place) (Holds : Zone → State → Typ
     effect_passes (Inside s) Idle y i st next there turn goes h = into (Inside s) y next turn (by_state (Holds (Inside s)) st next goes h)
     effect_passes (Inside s) (Close u None) y i st next there turn goes h = into (Free (s + 1)) y next turn.2 (ends s u st next turn.0 goes h)
     effect_passes (Inside s) (Close u (Some q)) y i st next there turn goes h =
-        let first = bind_ok (chunk_placed (ground.rows q) st) (section_ended_alone ground u) next goes in
+        let first = bind_ok (chunk_placed (ground.rows q) st) (section_ended_inside ground u) next goes in
         into (Free (s + 1)) y next turn.2 (ends s u first.0 next turn.0 first.2 (placed s q st first.0 turn.1 first.1 h))
     effect_passes x p y i st next there turn goes h = absurd turn
 
