@@ -7,14 +7,15 @@ use Rattle.wild_value_spec.specs.Known.{Known}
 use Rattle.wild_plan_spec.specs.declared.chunk.Kept.{Kept}
 use Rattle.wild_plan_spec.specs.Case.{Case}
 use Rattle.wild_plan_spec.specs.Chunks.{section_rows}
-use Rattle.wild_plan_spec.specs.Facts.{Facts, section_facts, facts_from, facts_of, facts_at}
+use Rattle.wild_plan_spec.specs.Facts.{Facts, section_facts, facts_from, facts_of, facts_at, headers_at}
 use Rattle.wild_plan_spec.specs.Fates.{fates_of, section_names}
+use Rattle.wild_plan_spec.specs.Headers.{section_headers}
 use Rattle.wild_plan_spec.specs.Layout.{placed_section, placed_sections}
 use Rattle.wild_plan_spec.specs.Names.{Name}
 use Rattle.wild_plan_spec.specs.Statements.{sections_of}
 use Rattle.wild_walk_laws.proofs.Numbered.{each_at}
 
-is_by : (o : Option Facts) (f : Facts) → o ≡ Some f → unwrap_or o (section_facts [] None []) ≡ f
+is_by : (o : Option Facts) (f : Facts) → o ≡ Some f → unwrap_or o (section_facts [] None [] []) ≡ f
 is_by o f e = rw e refl
 
 module _ (c : Case) where
@@ -29,10 +30,10 @@ module _ (c : Case) where
 
   -- what is said of the section of a name
   abbrev pub facts_named : ℕ → Name → Facts
-  facts_named s x = section_facts x (slice_get (sections_of c.commands) s) (section_rows s c.inputs.rows fates)
+  facts_named s x = section_facts x (slice_get (sections_of c.commands) s) (headers_at (section_headers c.commands) s) (section_rows s c.inputs.rows fates)
 
   pub facts_are : (s : ℕ) → slice_get facts s ≡ option_map (facts_named s) (slice_get names s)
-  facts_are s = each_at facts_named (λ n xs. facts_from (sections_of c.commands) c.inputs.rows fates n xs) (λ n. refl) (λ n x xs. refl) names s
+  facts_are s = each_at facts_named (λ n xs. facts_from (sections_of c.commands) (section_headers c.commands) c.inputs.rows fates n xs) (λ n. refl) (λ n x xs. refl) names s
 
   pub facts_is : (s : ℕ) (f : Facts) → slice_get facts s ≡ Some f → facts_at facts s ≡ f
   facts_is s f there = is_by (slice_get facts s) f there
