@@ -1,5 +1,5 @@
 -- Where all places are laid out, nothing is asked in the end that is not.
-use Rattle.std.proofs.Common.{◌≡◌, ℕ, zero, suc, ◌+◌, ◌<◌, Bool, false, List, [], ◌∷◌, length, Option, Some, None, Result, Err, refl, subst, inl, inr, ⊎_elim, arith}
+use Rattle.std.proofs.Common.{◌≡◌, ℕ, zero, suc, ◌+◌, ◌<◌, ◌≤◌, Bool, true, false, List, [], ◌∷◌, length, Option, Some, None, Result, Err, refl, subst, inl, inr, ⊎_elim, arith}
 use Rattle.std.specs.Prelude.{slice_get}
 use Rattle.wild_numbering.specs.Numbering.{is_named, number_of}
 use Rattle.wild_names.specs.declared.fault.Fault.{Fault}
@@ -21,22 +21,26 @@ use Rattle.wild_plan_spec.specs.Fit.{IsLaid, EndFault}
 use Rattle.wild_plan_spec.specs.Names.{Name}
 use Rattle.wild_plan_spec.specs.Orphans.{places_of}
 use Rattle.wild_plan_spec.specs.Places.{Task, Place, Wait, Assign, Provide, Locate, Check}
-use Rattle.wild_plan_spec.specs.Points.{task_point}
+use Rattle.wild_plan_spec.specs.Points.{asks_segment, condition_point, dot_at, holder, task_point}
 use Rattle.wild_plan_spec.specs.Scopes.{entries_of, scope_of}
 use Rattle.wild_plan_spec.specs.Steps.{State}
 use Rattle.wild_plan_spec.specs.Symbols.{is_at, unlisted, listed_symbol, assignment_symbol, task_symbol, place_symbol, symbols}
 use Rattle.wild_walk_laws.specs.Holding.{IsKnown}
 use Rattle.wild_walk_laws.proofs.Having.{Has, has_either}
-use Rattle.wild_walk_laws.proofs.Nesting.{held_below}
+use Rattle.wild_walk_laws.proofs.Nesting.{behind_all, held_below}
 use Rattle.wild_plan_laws.proofs.Apart.{all_is_known, rows_lie_in_sections}
 use Rattle.wild_walk_laws.proofs.Kept.{kept_lays}
 use Rattle.wild_walk_laws.proofs.Numbered.{position_within}
-use Rattle.wild_plan_laws.proofs.Timely.{IsTimely, on, choose, IsPointKnown, IsDefinitionKnown, IsScopeKnown, full_timely, assert_timely}
+use Rattle.wild_plan_laws.proofs.Timely.{IsTimely, on, choose, IsDotKnown, IsPointKnown, IsDefinitionKnown, IsScopeKnown, full_timely, assert_timely}
 
 module _ (known : Known) where
-  -- what a task at place i may ask of its place is known
+  -- what an expression at place i may ask of its place is known, whether it asks for the start of a segment or not
+  abbrev IsWhereKnown : ℕ → Where → Type 0
+  IsWhereKnown i w = (asks : Bool) → IsPointKnown known (record { place = i; dot = dot_at w asks; «section» = holder w })
+
+  -- the same of the task that stands at place i, if one does
   abbrev IsTaskKnown : ℕ → Place → Type 0
-  IsTaskKnown i (Wait w task) = IsPointKnown known (task_point i w)
+  IsTaskKnown i (Wait w task) = IsWhereKnown i w
   IsTaskKnown i p = Unit {0}
 
   -- the same of the tasks of a list of places, of which the first has the number i
@@ -68,15 +72,15 @@ module _ (known : Known) where
   entry_says (b ∷ bs) said d (inl h) = h
   entry_says (b ∷ bs) said d (inr h) = absurd h
 
-  script_known : (i : ℕ) (w : Where) (name : Name) (e : Expression) (d : Definition) → IsPointKnown known (task_point i w) → Has (Says d) (entry_of name (OfScript e (task_point i w))) → IsDefinitionKnown known d
-  script_known i w name e d k h = subst (IsDefinitionKnown known) (entry_says name (OfScript e (task_point i w)) d h) k
+  script_known : (i : ℕ) (w : Where) (name : Name) (e : Expression) (d : Definition) → IsPointKnown known (task_point i w e) → Has (Says d) (entry_of name (OfScript e (task_point i w e))) → IsDefinitionKnown known d
+  script_known i w name e d k h = subst (IsDefinitionKnown known) (entry_says name (OfScript e (task_point i w e)) d h) k
 
   assigned_known : (i : ℕ) (p : Place) (d : Definition) → IsTaskKnown i p → Has (Says d) (assigned_entry i p) → IsDefinitionKnown known d
-  assigned_known i (Wait w (Assign name e)) d k h = script_known i w name e d k h
+  assigned_known i (Wait w (Assign name e)) d k h = script_known i w name e d (k (asks_segment e)) h
   assigned_known i p d k h = absurd h
 
   provided_known : (i : ℕ) (p : Place) (d : Definition) → IsTaskKnown i p → Has (Says d) (provided_entry i p) → IsDefinitionKnown known d
-  provided_known i (Wait w (Provide e)) d k h = script_known i w e.name e.value d k h
+  provided_known i (Wait w (Provide e)) d k h = script_known i w e.name e.value d (k (asks_segment e.value)) h
   provided_known i p d k h = absurd h
 
   all_assigned : (i : ℕ) (ps : List Place) (d : Definition) → AreTasksKnown i ps → Has (Says d) (assigned_entries i ps) → IsDefinitionKnown known d
@@ -113,23 +117,23 @@ module _ (known : Known) where
     abbrev TimelySymbol : Result (Option PlacedSymbol) Fault → Type 0
     TimelySymbol r = IsTimely r
 
-    unlisted_timely : (i : ℕ) (w : Where) (e : Expression) → IsPointKnown known (task_point i w) → TimelySymbol (unlisted scope known i w e)
+    unlisted_timely : (i : ℕ) (w : Where) (e : Expression) → IsPointKnown known (task_point i w e) → TimelySymbol (unlisted scope known i w e)
     unfolding unlisted
-    unlisted_timely i w e k = on (full_timely scope i known all max_height [] e (task_point i w) k) (λ n. record { timely = λ f. f })
+    unlisted_timely i w e k = on (full_timely scope i known all max_height [] e (task_point i w e) k) (λ n. record { timely = λ f. f })
 
-    listed_timely : (i : ℕ) (w : Where) (name : Name) (e : Expression) (hidden : Bool) → IsPointKnown known (task_point i w) → TimelySymbol (listed_symbol scope known i w name e hidden)
+    listed_timely : (i : ℕ) (w : Where) (name : Name) (e : Expression) (hidden : Bool) → IsPointKnown known (task_point i w e) → TimelySymbol (listed_symbol scope known i w name e hidden)
     unfolding listed_symbol
-    listed_timely i w name e hidden k = on (full_timely scope i known all max_height (name ∷ []) e (task_point i w) k) (λ n. record { timely = λ f. f })
+    listed_timely i w name e hidden k = on (full_timely scope i known all max_height (name ∷ []) e (task_point i w e) k) (λ n. record { timely = λ f. f })
 
-    assignment_timely : (i : ℕ) (w : Where) (name : Name) (e : Expression) → IsPointKnown known (task_point i w) → TimelySymbol (assignment_symbol scope known i w name e)
+    assignment_timely : (i : ℕ) (w : Where) (name : Name) (e : Expression) → IsPointKnown known (task_point i w e) → TimelySymbol (assignment_symbol scope known i w name e)
     assignment_timely i w [] e k = unlisted_timely i w e k
     assignment_timely i w (b ∷ bs) e k = listed_timely i w (b ∷ bs) e false k
 
     symbol_timely : (i : ℕ) (p : Place) → IsTaskKnown i p → TimelySymbol (place_symbol scope known i p)
     unfolding place_symbol task_symbol
-    symbol_timely i (Wait w (Assign name e)) k = assignment_timely i w name e k
-    symbol_timely i (Wait w (Provide d)) k = choose (is_at i (definition_of scope d.name)) (listed_timely i w d.name d.value d.hidden k) (record { timely = λ f. f })
-    symbol_timely i (Wait w (Locate e)) k = unlisted_timely i w e k
+    symbol_timely i (Wait w (Assign name e)) k = assignment_timely i w name e (k (asks_segment e))
+    symbol_timely i (Wait w (Provide d)) k = choose (is_at i (definition_of scope d.name)) (listed_timely i w d.name d.value d.hidden (k (asks_segment d.value))) (record { timely = λ f. f })
+    symbol_timely i (Wait w (Locate e)) k = unlisted_timely i w e (k (asks_segment e))
     symbol_timely i p k = record { timely = λ f. f }
 
     symbols_timely : (i : ℕ) (ps : List Place) → AreTasksKnown i ps → IsTimely (symbols scope known i ps)
@@ -138,7 +142,7 @@ module _ (known : Known) where
 
     condition_timely : (i : ℕ) (p : Place) → IsTaskKnown i p → IsTimely (place_holds scope known i p)
     unfolding place_holds task_holds
-    condition_timely i (Wait w (Check command)) k = on (assert_timely scope i known all command (task_point i w) k) (λ x. record { timely = λ f. f })
+    condition_timely i (Wait w (Check command)) k = on (assert_timely scope i known all command (condition_point i w) (k false)) (λ x. record { timely = λ f. f })
     condition_timely i p k = record { timely = λ f. f }
 
     conditions_timely : (i : ℕ) (ps : List Place) → AreTasksKnown i ps → IsTimely (conditions scope known i ps)
@@ -155,15 +159,21 @@ module _ (c : Case) (state : State) (f : IsLaid c state) where
       let lies = rows_lie_in_sections c state f r laid.row k laid.there fate address.0 address.1 in
       (address, (lies.start, lies.spans.starts))
 
-  point_known : (i : ℕ) (w : Where) (task : Task) → slice_get (places_of c.commands c.inputs) i ≡ Some (Wait w task) → IsPointKnown state.known (task_point i w)
-  point_known i Outermost task there = record { dot = tt; start = tt }
-  point_known i Between task there = record { dot = (all_is_known c state f).dots i (Wait Between task) there; start = tt }
-  point_known i (Inside s) task there =
+  -- behind so many sections the end of the last of them is known
+  behind_known : (i s : ℕ) (asks : Bool) → s ≤ length (section_names c.commands c.inputs) → IsDotKnown state.known i (dot_at (Outermost s) asks)
+  behind_known i s false low = tt
+  behind_known i zero true low = tt
+  behind_known i (suc s) true low = (all_is_known c state f).ends s (omega (arith, low))
+
+  where_known : (i : ℕ) (w : Where) (task : Task) → slice_get (places_of c.commands c.inputs) i ≡ Some (Wait w task) → IsWhereKnown state.known i w
+  where_known i (Outermost s) task there = λ asks. record { dot = behind_known i s asks (behind_all c.commands c.inputs i s task there); start = tt }
+  where_known i Between task there = λ asks. record { dot = (all_is_known c state f).dots i (Wait Between task) there; start = tt }
+  where_known i (Inside s) task there = λ asks.
       let all = all_is_known c state f in
       record { dot = all.dots i (Wait (Inside s) task) there; start = all.starts s (held_below c.commands c.inputs i s task there) }
 
   task_known : (i : ℕ) (p : Place) → slice_get (places_of c.commands c.inputs) i ≡ Some p → IsTaskKnown state.known i p
-  task_known i (Wait w task) there = point_known i w task there
+  task_known i (Wait w task) there = where_known i w task there
   task_known i p there = tt
 
   known_tasks : AreTasksKnown state.known 0 (places_of c.commands c.inputs)

@@ -16,7 +16,7 @@ use Rattle.wild_plan_spec.specs.Definitions.{row_chunk}
 use Rattle.wild_plan_spec.specs.Ground.{Ground}
 use Rattle.wild_plan_spec.specs.Overlaps.{lowest_sharing}
 use Rattle.wild_plan_spec.specs.Places.{Place, SetLocation}
-use Rattle.wild_plan_spec.specs.Steps.{State, first_state, row_placed, chunk_placed, is_floating, overlapped}
+use Rattle.wild_plan_spec.specs.Steps.{State, first_state, row_placed, chunk_placed, is_floating, leaves_region, overlapped}
 use Rattle.wild_walk_laws.specs.Nesting.{Zone, Free, Inside}
 use Rattle.wild_walk_laws.proofs.Chunked.{IsRow, IsRowOf}
 use Rattle.wild_walk_laws.proofs.Entries.{known_number, grown_entry, new_entry, other_entry, entry_is}
@@ -287,10 +287,10 @@ module _ (ground : Ground) (places : List Place) (rows : List InputRow) (fates :
 
   -- ---- a section ends
 
-  ends : (s counter : ℕ) (st : State) → overlapped ground s st ≡ None → Amid s st → After (s + 1) (ended_at s counter st)
+  ends : (s counter : ℕ) (regions : List ℕ) (st : State) → leaves_region ground s st ≡ false → overlapped ground s st ≡ None → Amid s st → After (s + 1) (ended_at s counter regions st)
   unfolding overlapped
-  ends s counter st none h =
-      let next = ended_at s counter st in
+  ends s counter regions st inside none h =
+      let next = ended_at s counter regions st in
       let part = grown_entry (End s) st.cursor st.known in
       let number = known_number st.known (Start s) h.start h.starts in
       let alone = λ (counted : (ground.facts s).floating ≡ false).

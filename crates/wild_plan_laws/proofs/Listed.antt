@@ -15,18 +15,20 @@ use Rattle.wild_plan_spec.specs.Definitions.{symbol_chunk}
 use Rattle.wild_plan_spec.specs.Facts.{Facts, facts_at}
 use Rattle.wild_plan_spec.specs.Fit.{Fits, IsLaid}
 use Rattle.wild_plan_spec.specs.Layout.{Layout, placed_section, placed_sections, placed_input, placed_inputs}
+use Rattle.wild_plan_spec.specs.Names.{Name}
 use Rattle.wild_plan_spec.specs.Orphans.{places_of}
 use Rattle.wild_plan_spec.specs.Steps.{State}
 use Rattle.wild_plan_spec.specs.Symbols.{table_symbol, table_symbols}
-use Rattle.wild_walk_laws.proofs.Entries.{known_number}
+use Rattle.wild_walk_laws.proofs.Entries.{known_number, one_number}
 use Rattle.wild_walk_laws.proofs.Having.{IsAmong, has_before, has_after, has_there}
 use Rattle.wild_walk_laws.proofs.Kept.{kept_rows_have_addresses}
 use Rattle.wild_walk_laws.proofs.Numbered.{each_at, made_of}
 use Rattle.wild_walk_laws.proofs.SectionFacts.{fates, facts, facts_is, sections_are, section_there}
 use Rattle.wild_walk_laws.proofs.Standing.{rows_stand_in_place}
 use Rattle.wild_plan_laws.specs.Holding as holding
-use Rattle.wild_plan_laws.specs.Listing.{AreOneOrListedCounted, Covers, IsListedCounted, Lists, RowStands, SectionStands, SymbolStands}
+use Rattle.wild_plan_laws.specs.Listing.{AreOneOrListedCounted, Covers, IsListedCounted, Lists, RowStands, SectionStands, StandsInRegion, SymbolStands}
 use Rattle.wild_plan_laws.proofs.Apart.{sections_stand, rows_lie_in_sections, starts_below, sections_do_not_overlap, rows_do_not_overlap}
+use Rattle.wild_plan_laws.proofs.Regions.{sections_lie_in_regions}
 
 -- ---- symbols of the table
 
@@ -126,6 +128,22 @@ module _ (c : Case) (state : State) (f : IsLaid c state) where
       let same = facts_is c s found.facts_said found.there in
       ap (λ (g : Facts). g.floating) same ∙ counted_by found.facts_said.floating (sym (ap (λ (p : PlacedSection). p.counted) found.is.place_is) ∙ counts)
 
+  -- a section that is listed as counted lies in its region, as it is listed
+  section_in_region : (s : ℕ) (place : PlacedSection) → slice_get sections s ≡ Some place → place.counted ≡ true → (name : Name) → place.region ≡ Some name → StandsInRegion c.commands name place
+  section_in_region s place there counts name e =
+      let found = listed_is s place there in
+      let is = found.is in
+      let counted = counted_by found.facts_said.floating (sym (ap (λ (p : PlacedSection). p.counted) is.place_is) ∙ counts) in
+      let lies = sections_lie_in_regions c state f s found.facts_said found.there counted name (sym (ap (λ (p : PlacedSection). p.region) is.place_is) ∙ e) in
+      let first = one_number state.known (Start s) lies.start is.stands.start lies.spans.starts is.stands.spans.starts in
+      let last = one_number state.known (End s) lies.end is.stands.end lies.spans.ends is.stands.spans.ends in
+      let start = is.start in
+      let size = is.size in
+      let forward = is.stands.forward in
+      let low = lies.inside.0 in
+      let high = lies.inside.1 in
+      record { region = lies.region; named = lies.named; inside = (omega (arith, first, start, low), omega (arith, first, last, start, size, forward, high)) }
+
   -- ---- rows
 
   abbrev placements : List PlacedInput
@@ -193,6 +211,9 @@ module _ (c : Case) (plan : Layout) (f : Fits c plan) where
 
   pub listed_sections_stand : (s : ℕ) (g : Facts) (place : PlacedSection) → slice_get (facts c) s ≡ Some g → slice_get plan.sections s ≡ Some place → SectionStands c plan s g place
   listed_sections_stand s g place said there = section_stands c f.state f.laid s g place said (place_there s place there) plan (ap (λ (l : Layout). l.locations) f.listed)
+
+  pub listed_sections_stand_in_regions : (s : ℕ) (place : PlacedSection) → slice_get plan.sections s ≡ Some place → place.counted ≡ true → (name : Name) → place.region ≡ Some name → StandsInRegion c.commands name place
+  listed_sections_stand_in_regions s place there counts name e = section_in_region c f.state f.laid s place (place_there s place there) counts name e
 
   pub listed_rows_stand : (r s address : ℕ) (row : InputRow) → Lists c.inputs plan r s address row → RowStands plan s address row
   listed_rows_stand r s address row l = row_stands c f.state f.laid r s address row l.there (row_there r s address row l) plan (ap (λ (l : Layout). l.sections) f.listed)

@@ -6,11 +6,12 @@ use Rattle.wild_names.specs.declared.fault.Fault.{Fault}
 use Rattle.wild_names.specs.declared.fault.Fault.TheVariants.{NotLaidOut}
 use Rattle.wild_expression_tree.specs.declared.tree.AssertCommand.{AssertCommand}
 use Rattle.wild_expression_tree.specs.declared.tree.Expression.{Expression}
-use Rattle.wild_expression_tree.specs.Shape.{Shape, LocationCounter, Symbol, Named, Ternary, Align, Assert, shape}
+use Rattle.wild_expression_tree.specs.Shape.{Shape, LocationCounter, Symbol, Named, Ternary, Align, SegmentStart, Assert, shape}
 use Rattle.wild_expression_tree.specs.declared.operator.Division.{Division}
 use Rattle.wild_expression_tree.specs.declared.operator.Division.TheVariants as division
 use Rattle.wild_expression_tree.specs.declared.operator.Question.{Question}
 use Rattle.wild_expression_tree.specs.declared.operator.Question.TheVariants as question
+use Rattle.wild_value_spec.specs.declared.region.Region.{Region}
 use Rattle.wild_value_spec.specs.declared.value.DotSource.{DotSource}
 use Rattle.wild_value_spec.specs.declared.value.DotSource.TheVariants.{OfPlace, OfLoad, Zero, OfEnd}
 use Rattle.wild_value_spec.specs.declared.value.Point.{Point}
@@ -131,11 +132,17 @@ module _ (scope : Scope) (statement : ℕ) (known : Known) (all : IsScopeKnown k
   address_in of name None k = record { timely = λ e. e }
   address_in of name (Some s) k = on (k s refl) (λ n. ok _)
 
+  region_in : (of : Region → Value) (name : Name) (o : Option Region) → IsTimely (v.region_in scope statement known of name o)
+  region_in of name None = record { timely = λ e. e }
+  region_in of name (Some r) = ok _
+
   named_value : (q : Question) (name : Name) → IsTimely (v.named_value scope statement known q name)
-  unfolding v.size v.start_named v.load_named v.start_of v.load_of
+  unfolding v.size v.start_named v.load_named v.start_of v.load_of v.region_origin v.region_length
   named_value question.Sizeof name = size_in (scope.«section» name) (all.sections name)
   named_value question.Addr name = address_in _ name (scope.«section» name) (λ s e. asked (Start s) _ (all.sections name s e).0)
   named_value question.Loadaddr name = address_in _ name (scope.«section» name) (λ s e. asked (Load s) _ (all.sections name s e).1)
+  named_value question.Origin name = region_in _ name (scope.region name)
+  named_value question.Length name = region_in _ name (scope.region name)
   named_value q name = record { timely = λ e. e }
 
   symbol_value_in : (name : Name) (w : Whole) (o t : Option ℕ) → IsHomeKnown known o → IsTimely (v.symbol_value_in scope statement known name w o t)
@@ -167,12 +174,16 @@ module _ (scope : Scope) (statement : ℕ) (known : Known) (all : IsScopeKnown k
     subject (Some a) p k = part path a p k
     subject None p k = on (counter p k) (λ x. ok _)
 
+    started_by : (o : Option ℕ) (a : Expression) (p : Point) → IsPointKnown known p → IsTimely (v.started_by scope statement known eval path o a p)
+    started_by (Some n) a p k = ok _
+    started_by None a p k = on (part path a p k) (λ x. ok _)
+
     assert_value : (c : Expression) (message : Name) (at : ℕ) (p : Point) → IsPointKnown known p → IsTimely (v.assert_value scope statement known eval path c message at p)
     unfolding v.assert_value
     assert_value c message at p k = on (part path c p k) (λ x. choose (x.number == 0) (record { timely = λ e. e }) (ok _))
 
     node : (p : Point) (s : Shape Expression) → IsPointKnown known p → IsTimely (v.node scope statement known eval path p s)
-    unfolding v.arithmetic_value v.division_value v.comparison_value v.judgement v.connective_value v.unary_value v.ternary_value v.align_value v.multiple_value v.symbol
+    unfolding v.arithmetic_value v.division_value v.comparison_value v.judgement v.connective_value v.unary_value v.ternary_value v.align_value v.multiple_value v.segment_value v.symbol
     node p LocationCounter k = counter p k
     node p (Symbol name) k = symbol_in name (definition_of scope name) p (all.definitions name)
     node p (Named q name) k = named_value q name
@@ -183,6 +194,7 @@ module _ (scope : Scope) (statement : ℕ) (known : Known) (all : IsScopeKnown k
     node p (Shape.Unary o a) k = on (part path a p k) (λ x. ok _)
     node p (Ternary c a b) k = on (part path c p k) (λ x. on (part path (v.chosen_side x.number a b) p k) (λ y. ok _))
     node p (Align n a) k = on (part path n p k) (λ align. choose (align.number == 0) (record { timely = λ e. e }) (on (subject a p k) (λ x. on (multiple_timely x.number align.number) (λ m. ok _))))
+    node p (SegmentStart segment a) k = started_by (scope.segment_start segment) a p k
     node p (Assert c message at) k = assert_value c message at p k
     node p s k = record { timely = λ e. e }
 

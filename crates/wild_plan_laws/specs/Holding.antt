@@ -1,16 +1,22 @@
 -- What holds of a finished layout.
 use Rattle.std.specs.Prelude.{◌≡◌, ◌⊎◌, ℕ, ◌+◌, ◌%◌, ◌^◌, ◌<◌, ◌≤◌, true, false, List, Option, Some, None, length, slice_get}
+use Rattle.wild_numbering.specs.Numbering.{number_of}
 use Rattle.wild_expression_tree.specs.declared.tree.Expression.{Expression}
+use Rattle.wild_script_tree.specs.declared.tree.Command.{Command}
 use Rattle.wild_script_tree.specs.declared.tree.Section.{Section}
+use Rattle.wild_value_spec.specs.declared.region.Region.{Region}
 use Rattle.wild_value_spec.specs.Known.{Known, Start, Load, End, Address, Dot, LoadDot}
+use Rattle.wild_value_spec.specs.Scope.{region_at}
 use Rattle.wild_plan_spec.specs.declared.chunk.Kept.{Kept}
 use Rattle.wild_plan_spec.specs.declared.placed.PlacedLocation.{PlacedLocation}
 use Rattle.wild_plan_spec.specs.declared.row.InputRow.{InputRow}
 use Rattle.wild_plan_spec.specs.Case.{Case}
 use Rattle.wild_plan_spec.specs.Facts.{Facts, facts_at, facts_of}
 use Rattle.wild_plan_spec.specs.Fates.{fates_of, section_names}
+use Rattle.wild_plan_spec.specs.Names.{Name}
 use Rattle.wild_plan_spec.specs.Orphans.{places_of}
 use Rattle.wild_plan_spec.specs.Places.{Place, SetLocation, Open}
+use Rattle.wild_plan_spec.specs.Regions.{region_names, regions_of}
 use Rattle.wild_plan_spec.specs.Steps.{State}
 use Rattle.wild_walk_laws.specs.Holding.{IsKnown}
 
@@ -80,6 +86,25 @@ pub record LiesIn (known : Known) (s address size : ℕ) : Type 0 where
   pub spans : Spans known s start end
   pub from : start ≤ address
   pub to : address + size ≤ end
+
+-- ---- regions
+
+-- the memory region of this name stands there: the one of its number, among those of the last MEMORY
+abbrev pub IsRegionNamed : List Command → Name → Region → Type 0
+IsRegionNamed t name r = region_at (regions_of t) (number_of name (region_names t)) ≡ Some r
+
+-- what starts and ends at these addresses starts no lower than the origin of the region, and ends no higher than its end
+abbrev pub IsInside : Region → ℕ → ℕ → Type 0
+IsInside r start end = (r.origin ≤ start) × (end ≤ r.origin + r.length)
+
+-- a script has a region of this name, and section s lies in it
+pub record LiesInRegion (t : List Command) (known : Known) (s : ℕ) (name : Name) : Type 0 where
+  pub region : Region
+  pub named : IsRegionNamed t name region
+  pub start : ℕ
+  pub end : ℕ
+  pub spans : Spans known s start end
+  pub inside : IsInside region start end
 
 -- ---- all
 

@@ -1,5 +1,7 @@
 -- What holds of what a plan lists.
-use Rattle.std.specs.Prelude.{◌≡◌, ◌⊎◌, ℕ, ◌+◌, ◌%◌, ◌^◌, ◌<◌, ◌≤◌, true, false, Some, slice_get}
+use Rattle.std.specs.Prelude.{◌≡◌, ◌⊎◌, ℕ, ◌+◌, ◌%◌, ◌^◌, ◌<◌, ◌≤◌, true, false, List, Some, slice_get}
+use Rattle.wild_script_tree.specs.declared.tree.Command.{Command}
+use Rattle.wild_value_spec.specs.declared.region.Region.{Region}
 use Rattle.wild_plan_spec.specs.declared.placed.PlacedInput.TheVariants.{Placed}
 use Rattle.wild_plan_spec.specs.declared.placed.PlacedSection.{PlacedSection}
 use Rattle.wild_plan_spec.specs.declared.row.InputRow.{InputRow}
@@ -9,8 +11,9 @@ use Rattle.wild_plan_spec.specs.Case.{Case}
 use Rattle.wild_plan_spec.specs.Chunks.{alignment_of}
 use Rattle.wild_plan_spec.specs.Facts.{Facts}
 use Rattle.wild_plan_spec.specs.Layout.{Layout}
+use Rattle.wild_plan_spec.specs.Names.{Name}
 use Rattle.wild_plan_spec.specs.Orphans.{places_of}
-use Rattle.wild_plan_laws.specs.Holding.{AreWordsIn, StandsBy}
+use Rattle.wild_plan_laws.specs.Holding.{AreWordsIn, IsInside, IsRegionNamed, StandsBy}
 
 -- a section s of which this is said is listed with its alignment, starts and is loaded as it says, and ends below 2 ^ 64
 -- where its start and the locations in it are below that
@@ -18,6 +21,12 @@ pub record SectionStands (c : Case) (plan : Layout) (s : ℕ) (f : Facts) (place
   pub alignment : place.alignment ≡ f.alignment
   pub begins : StandsBy f place.start place.load
   pub below : place.start < 2 ^ 64 → AreWordsIn (places_of c.commands c.inputs) plan.locations s → place.start + place.size < 2 ^ 64
+
+-- a script has a region of this name, and a section that is listed so lies in it
+pub record StandsInRegion (t : List Command) (name : Name) (place : PlacedSection) : Type 0 where
+  pub region : Region
+  pub named : IsRegionNamed t name region
+  pub inside : IsInside region place.start (place.start + place.size)
 
 -- section s is listed, and counted
 pub record IsListedCounted (plan : Layout) (s : ℕ) : Type 0 where

@@ -1,8 +1,8 @@
 //! Laws about layouts: what holds where all places are laid out.
 
-ghost use Rattle.std.specs.Prelude.{◌≡◌, ℕ, Bool, Some, slice_get};
+ghost use Rattle.std.specs.Prelude.{◌≡◌, ℕ, Bool, false, Some, slice_get};
 ghost use Rattle.wild_names.specs.declared.fault.Fault.TheVariants.{NotLaidOut};
-ghost use Rattle.wild_plan_laws.specs.Holding.{AllIsKnown, AreOneOrCounted, IsCounted, LaidSectionStands, LiesIn, RowHolds, SectionHolds};
+ghost use Rattle.wild_plan_laws.specs.Holding.{AllIsKnown, AreOneOrCounted, IsCounted, LaidSectionStands, LiesIn, LiesInRegion, RowHolds, SectionHolds};
 ghost use Rattle.wild_plan_laws.specs.Sharing.{SharingIsLowest};
 ghost use Rattle.wild_plan_spec.specs.declared.chunk.Kept.{Kept};
 ghost use Rattle.wild_plan_spec.specs.declared.row.InputRow.{InputRow};
@@ -27,6 +27,14 @@ pub fn sharing_is_lowest()
 pub fn sections_stand()
     ensures { (c : Case) (state : State) → IsLaid c state
         → (s : ℕ) (f : Facts) → slice_get (facts_of c.commands c.inputs) s ≡ Some f → LaidSectionStands (places_of c.commands c.inputs) state s f }
+{}
+
+/// Where all places are laid out, each section that is counted and names a memory region lies in it: the script has a
+/// region of that name, and the section starts no lower than its origin and ends no higher than its end.
+pub fn sections_lie_in_regions()
+    ensures { (c : Case) (state : State) → IsLaid c state
+        → (s : ℕ) (f : Facts) → slice_get (facts_of c.commands c.inputs) s ≡ Some f → f.floating ≡ false
+        → (name : Name) → f.region ≡ Some name → LiesInRegion c.commands state.known s name }
 {}
 
 /// Where all places are laid out, each row that has an address lies in the section of its chunk.

@@ -1,7 +1,7 @@
 //! Laws about what a plan lists: its sections, rows and symbols of the table.
 
 ghost use Rattle.std.specs.Prelude.{◌≡◌, ℕ, true, Some, slice_get};
-ghost use Rattle.wild_plan_laws.specs.Listing.{AreOneOrListedCounted, Covers, Lists, RowStands, SectionStands, SymbolStands};
+ghost use Rattle.wild_plan_laws.specs.Listing.{AreOneOrListedCounted, Covers, Lists, RowStands, SectionStands, StandsInRegion, SymbolStands};
 ghost use Rattle.wild_plan_spec.specs.declared.placed.PlacedSection.{PlacedSection};
 ghost use Rattle.wild_plan_spec.specs.declared.row.InputRow.{InputRow};
 ghost use Rattle.wild_plan_spec.specs.declared.row.SymbolRow.{SymbolRow};
@@ -9,6 +9,7 @@ ghost use Rattle.wild_plan_spec.specs.Case.{Case};
 ghost use Rattle.wild_plan_spec.specs.Facts.{Facts, facts_of};
 ghost use Rattle.wild_plan_spec.specs.Fit.{Fits};
 ghost use Rattle.wild_plan_spec.specs.Layout.{Layout};
+ghost use Rattle.wild_plan_spec.specs.Names.{Name};
 
 /// Each section of a plan that fits is listed with its alignment. Without a start expression it starts at a multiple of that
 /// below 2 ^ 64, at 0 if it floats, and without an AT clause it is loaded where it starts. It ends below 2 ^ 64 where its
@@ -17,6 +18,14 @@ pub fn listed_sections_stand()
     ensures { (c : Case) (plan : Layout) → Fits c plan
         → (s : ℕ) (f : Facts) (place : PlacedSection) → slice_get (facts_of c.commands c.inputs) s ≡ Some f → slice_get plan.sections s ≡ Some place
         → SectionStands c plan s f place }
+{}
+
+/// Each section of a plan that fits, which is counted and names a memory region, stands in it: the script has a region of
+/// that name, and the section starts no lower than its origin and ends no higher than its end.
+pub fn listed_sections_stand_in_regions()
+    ensures { (c : Case) (plan : Layout) → Fits c plan
+        → (s : ℕ) (place : PlacedSection) → slice_get plan.sections s ≡ Some place → place.counted ≡ true
+        → (name : Name) → place.region ≡ Some name → StandsInRegion c.commands name place }
 {}
 
 /// Each row that a plan that fits lists in a section lies in that section, which is listed too, at a multiple of its
