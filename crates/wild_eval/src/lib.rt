@@ -24,4 +24,6 @@ pub use wild_value_spec::ConstFault;
 #[cfg(test)]
 mod name_tests;
 #[cfg(test)]
+mod region_tests;
+#[cfg(test)]
 mod tests;
