@@ -7,7 +7,7 @@ use Rattle.wild_segments.specs.Kinds.{all_kinds, includes}
 use Rattle.wild_segments.specs.Members.{Member}
 use Rattle.wild_segments.specs.Runs.{goes_on, stays, begins, following, segment_of_kind, run_at, runs_at, runs, stack_segment, runs_and_stack}
 use Rattle.wild_segments.specs.Segments.{segments_of}
-use Rattle.wild_segments.specs.Laws.{IsStretch, could_join, IsLongest, IsLongestRun, RunsAreLongest}
+use Rattle.wild_segments.specs.Laws.{IsStretch, could_join, IsLongestRun, RunsAreLongest}
 
 pub all-append : (P : PlacedSegment → Type 0) (xs ys : List PlacedSegment) → AllByRecursion P xs → AllByRecursion P ys → AllByRecursion P (xs ++ ys)
 all-append P [] ys p q = q
@@ -110,8 +110,8 @@ runs_said all done p n [] whole last number = tt
 runs_said all done p n (m ∷ ms) whole last number =
     let longer = length-append done (m ∷ []) in
     all-append (Said all) (runs_at all_kinds p n (m ∷ ms)) (runs (Some m) (n + 1) ms)
-        (at_kinds all done p n m ms whole last number all_kinds)
-        (runs_said all (done ++ m ∷ []) (Some m) (n + 1) ms (append_assoc done (m ∷ []) ms ∙ whole) (last_is None done m) (omega arith))
+    (at_kinds all done p n m ms whole last number all_kinds)
+    (runs_said all (done ++ m ∷ []) (Some m) (n + 1) ms (append_assoc done (m ∷ []) ms ∙ whole) (last_is None done m) (omega arith))
 
 pub runs_longest : RunsAreLongest
 unfolding segments_of runs_and_stack

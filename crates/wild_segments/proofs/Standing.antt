@@ -1,6 +1,5 @@
 -- Each section stands in one segment of each kind that includes it.
 use Rattle.std.proofs.Common.{◌≡◌, ◌∙◌, ℕ, ◌+◌, ◌<◌, ◌==◌, zero, suc, Bool, true, false, not, ◌&&◌, ◌||◌, cond, List, [], ◌∷◌, ◌++◌, refl, sym, ap, Option, Some, None, arith, slice_get}
-use Rattle.std.specs.List.{count_by}
 use Rattle.std.proofs.lemmas.Bool.Decides.{nat_tests}
 use Rattle.std.proofs.lemmas.List.Recursion.{is_count_by}
 use Rattle.std.proofs.lemmas.Option.{same_Some}
@@ -9,7 +8,7 @@ use Rattle.wild_segments.specs.declared.kind.SegmentKind.TheVariants as k
 use Rattle.wild_segments.specs.declared.segment.PlacedSegment.{PlacedSegment}
 use Rattle.wild_segments.specs.Kinds.{all_kinds, includes, type_of, flags_of}
 use Rattle.wild_segments.specs.Members.{Member}
-use Rattle.wild_segments.specs.Runs.{goes_on, stays, begins, following, run_from, segment_of_kind, run_at, runs_at, runs, stack_segment, runs_and_stack}
+use Rattle.wild_segments.specs.Runs.{goes_on, begins, following, run_from, segment_of_kind, runs_at, runs, stack_segment, runs_and_stack}
 use Rattle.wild_segments.specs.Segments.{segments_of}
 use Rattle.wild_segments.specs.Laws.{is_among, holds_as, EachStandsOnce}
 
