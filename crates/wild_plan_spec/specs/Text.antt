@@ -1,5 +1,5 @@
 -- How names, addresses and plans are printed.
-use Rattle.std.specs.Prelude.{ℕ, ◌/◌, ◌%◌, ◌+◌, ◌-◌, Bool, true, false, ◌&&◌, ◌||◌, not, ◌==◌, nat_le, if◌then◌else◌, List, [], ◌∷◌, ◌++◌, length, replicate, map, codes, decimal, flat_map, slice_get, Option, Some, None, ◌^◌}
+use Rattle.std.specs.Prelude.{ℕ, ◌/◌, ◌%◌, ◌+◌, ◌-◌, Bool, true, false, ◌&&◌, ◌||◌, not, ◌==◌, nat_le, if◌then◌else◌, List, [], ◌∷◌, ◌++◌, length, replicate, codes, decimal, flat_map, slice_get, Option, Some, None, ◌^◌}
 use Rattle.std.specs.Fmt.{digit_glyph, digits}
 use Rattle.wild_names.specs.InputFlags.{is_alloc, is_write, is_exec, is_nobits, is_tls}
 use Rattle.wild_names.specs.declared.input_flags.InputFlags.{InputFlags}
@@ -124,9 +124,14 @@ printed_holder sections (Some s) = printed_name (name_at sections s)
 abbrev pub printed_type : ℕ → List ℕ
 printed_type n = codes "0x" ++ hexadecimal 8 n
 
+-- a comma and the name of the section at an index, for each index
+abbrev pub more_sections : List PlacedSection → List ℕ → List ℕ
+more_sections sections held = flat_map (λ i. 44 ∷ printed_name (name_at sections i)) held
+
 -- the names of the sections at these indexes, joined by commas
 abbrev pub printed_sections : List PlacedSection → List ℕ → List ℕ
-printed_sections sections held = printed_names (map (name_at sections) held)
+printed_sections sections [] = 45 ∷ []
+printed_sections sections (i ∷ is) = printed_name (name_at sections i) ++ more_sections sections is
 
 -- `segment TYPE FLAGS NAME SECTIONS`
 unfoldable pub segment_line : List PlacedSection → PlacedSegment → List ℕ

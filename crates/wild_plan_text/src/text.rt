@@ -1,7 +1,7 @@
 //! Names, numbers and plans as they are printed.
 
-ghost use Rattle.std.specs.Prelude.{◌≡◌, ◌++◌, ◌∷◌, OnOk, IfOk, string_bytes, decimal, flat_map, map};
-ghost use Rattle.wild_plan_spec.specs.Text.{is_plain, printed_byte, printed_name, printed_address, field, letters_of, printed_flags, printed_fill, printed_region, more_names, printed_names, name_at, section_line, input_line, input_lines, location_line, printed_sections, printed_type, segment_line, segment_lines_of, printed_holder, printed_visibility, symbol_line};
+ghost use Rattle.std.specs.Prelude.{◌≡◌, ◌++◌, ◌∷◌, OnOk, IfOk, string_bytes, decimal, flat_map};
+ghost use Rattle.wild_plan_spec.specs.Text.{is_plain, printed_byte, printed_name, printed_address, field, letters_of, printed_flags, printed_fill, printed_region, more_names, printed_names, name_at, section_line, input_line, input_lines, location_line, more_sections, printed_sections, printed_type, segment_line, segment_lines_of, printed_holder, printed_visibility, symbol_line};
 ghost use Rattle.wild_plan_text.specs.Letters.{letter_in};
 
 use bitflags::Flags;
@@ -361,12 +361,13 @@ fn push_joined_section(
     push_name(out, name_at(sections, index))
 }
 
+#[tactic(auto, using(std::proofs::lemmas::List::flat_map_more))]
 fn push_more_sections(
     out: &mut String,
     sections: &[PlacedSection],
     held: &[usize],
 ) -> Result<(), AllocError>
-    ensures { OnOk result (string_bytes out.new ≡ string_bytes out.old ++ more_names (map (name_at sections.now) held.now)) }
+    ensures { OnOk result (string_bytes out.new ≡ string_bytes out.old ++ more_sections sections.now held.now) }
 {
     for index in held {
         push_joined_section(out, sections, *index)?;
