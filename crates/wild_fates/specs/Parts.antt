@@ -46,12 +46,12 @@ parts_checks options places sections = place_checks options 0 places
     ++ script_name_checks (names_in (memory_in places).regions) (names_of_headers (headers_list places).headers) sections))
 
 -- where rows go by these rules, with orphans after these places and these names, among these regions and headers
-pub record AreFatesBy (parts : Parts) (regions : Regions) (headers : List Header) (rules : List Rule) (own : List Name) (rows : List InputRow) (script_fates : ScriptFates) : Type 0 where
+pub record AreFatesBy (parts : Parts) (known : Regions) (phdrs : List Header) (rules : List Rule) (own : List Name) (rows : List InputRow) (script_fates : ScriptFates) : Type 0 where
   pub sections : targets script_fates.sections ≡ targets parts.sections
   pub section_headers : targets script_fates.section_headers ≡ targets parts.section_headers
-  pub headers : script_fates.headers ≡ headers
-  pub regions : script_fates.regions.regions ≡ regions.regions
-  pub region_names : script_fates.regions.names ≡ regions.names
+  pub headers : script_fates.headers ≡ phdrs
+  pub regions : script_fates.regions.regions ≡ known.regions
+  pub region_names : script_fates.regions.names ≡ known.names
   pub names : script_fates.names ≡ own ++ orphans own (names_asked rules rows)
   pub fates : script_fates.fates ≡ all_fates rules (own ++ orphans own (names_asked rules rows)) rows
   pub all_places : shown_places script_fates.places ≡ shown_places parts.places ++ orphans_from (length own) (length (own ++ orphans own (names_asked rules rows)) - length own)

@@ -1,5 +1,5 @@
 -- Sections that are counted lie in their regions, wherever places are laid out, and each region that a section names is there.
-use Rattle.std.proofs.Common.{◌≡◌, ◌∙◌, ℕ, ◌+◌, ◌<◌, Bool, true, false, not, ◌||◌, ◌&&◌, cond, zero, suc, List, [], ◌∷◌, length, map, Option, Some, None, refl, sym, ap, inl, arith}
+use Rattle.std.proofs.Common.{◌≡◌, ◌∙◌, ℕ, ◌+◌, ◌<◌, Bool, true, false, not, ◌||◌, ◌&&◌, cond, zero, suc, List, [], ◌∷◌, ◌++◌, length, map, Option, Some, None, refl, sym, ap, inl, arith}
 use Rattle.std.specs.Prelude.{slice_get}
 use Rattle.std.specs.List.{list_any, position_from}
 use Rattle.std.specs.Option.{option_map}
@@ -14,13 +14,14 @@ use Rattle.wild_value_spec.specs.declared.region.Region.{Region}
 use Rattle.wild_value_spec.specs.Known.{Known, IsPart, Start, End, Dot}
 use Rattle.wild_value_spec.specs.Scope.{region_at}
 use Rattle.wild_plan_spec.specs.Case.{Case}
-use Rattle.wild_plan_spec.specs.Checks.{Check, table_checks, place_checks, name_checks, memory_checks, region_check, reference_checks, script_checks, checks, failing}
+use Rattle.wild_plan_spec.specs.Checks.{Check, table_checks, place_checks, name_checks, memory_checks, header_name_checks, phdrs_checks, region_check, reference_checks, script_checks, checks, failing}
 use Rattle.wild_plan_spec.specs.Facts.{Facts, said}
 use Rattle.wild_plan_spec.specs.Fit.{IsLaid}
 use Rattle.wild_plan_spec.specs.Ground.{Ground, ground_of}
 use Rattle.wild_plan_spec.specs.Names.{Name}
 use Rattle.wild_plan_spec.specs.Orphans.{places_of}
 use Rattle.wild_plan_spec.specs.Places.{Place, script_places}
+use Rattle.wild_plan_spec.specs.Headers.{header_names, phdrs_of}
 use Rattle.wild_plan_spec.specs.Regions.{memory_of, region_of, region_names, regions_of, region_number}
 use Rattle.wild_plan_spec.specs.Statements.{sections_of}
 use Rattle.wild_plan_spec.specs.Steps.{State, leaves, leaves_region, region_in}
@@ -129,7 +130,7 @@ there_at [] i low = absurd (omega (arith, low))
 there_at (x ∷ xs) zero low = (x, refl)
 there_at (x ∷ xs) (suc i) low = there_at xs i (omega (arith, low))
 
-module _ (names : List Name) (name : Name) where
+module _ (names phdrs : List Name) (name : Name) where
   abbrev ChecksName : Check → Type 0
   ChecksName k = k.holds ≡ list_any (is_named name) names
 
@@ -137,12 +138,16 @@ module _ (names : List Name) (name : Name) where
   name_checked None e = absurd (cc)
   name_checked (Some x) e = let same : x ≡ name = cc in inl (ap (λ (y : Name). list_any (is_named y) names) same)
 
-  reference_checked : (xs : List Section) (s : ℕ) (x : Section) → slice_get xs s ≡ Some x → x.region ≡ Some name → Has ChecksName (reference_checks names xs)
+  abbrev section_checks : Section → List Check
+  section_checks x = region_check names x.region ++ header_name_checks phdrs x.phdrs
+
+  reference_checked : (xs : List Section) (s : ℕ) (x : Section) → slice_get xs s ≡ Some x → x.region ≡ Some name → Has ChecksName (reference_checks names phdrs xs)
   reference_checked [] s x there e = absurd (cc)
   reference_checked (first ∷ xs) zero x there e =
       let same : first ≡ x = cc in
-      has_before ChecksName (region_check names first.region) (reference_checks names xs) (name_checked first.region (ap (λ (w : Section). w.region) same ∙ e))
-  reference_checked (first ∷ xs) (suc s) x there e = has_after ChecksName (region_check names first.region) (reference_checks names xs) (reference_checked xs s x there e)
+      has_before ChecksName (section_checks first) (reference_checks names phdrs xs)
+      (has_before ChecksName (region_check names first.region) (header_name_checks phdrs first.phdrs) (name_checked first.region (ap (λ (w : Section). w.region) same ∙ e)))
+  reference_checked (first ∷ xs) (suc s) x there e = has_after ChecksName (section_checks first) (reference_checks names phdrs xs) (reference_checked xs s x there e)
 
 said_by : (o : Option Section) (name : Name) → said (λ (x : Section). x.region) o ≡ Some name → (x : Section) × (o ≡ Some x) × (x.region ≡ Some name)
 said_by None name e = absurd (cc)
@@ -161,7 +166,10 @@ named_there c sound s x name there e =
     (has_before _ (script_checks c.options t) _
     (has_after _ (place_checks c.options 0 (script_places t)) _
     (has_after _ (memory_checks (memory_of t)) _
-    (has_after _ (name_checks DuplicateName [] names) _ (has_before _ (reference_checks names (sections_of t)) _ (reference_checked names name (sections_of t) s x there e)))))) in
+    (has_after _ (phdrs_checks (phdrs_of t)) _
+    (has_after _ (name_checks DuplicateName [] names) _
+    (has_after _ (name_checks DuplicateName [] (header_names t)) _
+    (has_before _ (reference_checks names (header_names t) (sections_of t)) _ (reference_checked names (header_names t) name (sections_of t) s x there e)))))))) in
     let found = position_there (is_named name) 0 names (none_fails (checks c) _ sound checked) in
     let within = position_within (is_named name) 0 names found.0 found.1 in
     let same = length-map (memory_of t).regions (λ (r : MemoryRegion). r.name) in
