@@ -24,7 +24,8 @@ struct Section {
     headers: Vec<Name>,
 }
 
-// How a section is written: the letters of its flags, its region or nothing, its mark, and the headers that it names.
+// How a section is written: the letters of its flags, its region or nothing, its mark, and the
+// headers that it names.
 type Row<'a> = (&'a [u8], &'a [u8], Mark, &'a [&'a [u8]]);
 
 fn flags_of(letters: &[u8]) -> InputFlags {
