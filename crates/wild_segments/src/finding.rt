@@ -11,8 +11,9 @@ use sqlite_items::Items;
 use std::alloc::Global;
 use wild_names::Fault;
 
-/// The segments of sections: by the program headers of the script, where it has any; else none in a partial link; else
-/// the runs of each kind, and the stack. Fails where there are too many, or memory runs out.
+/// The segments of sections: by the program headers of the script, where it has any; else none in a
+/// partial link; else the runs of each kind, and the stack. Fails where there are too many, or
+/// memory runs out.
 #[tactic(auto, unfolding(crate::specs::Segments::segments_of))]
 pub fn find_segments(
     alloc: Global,

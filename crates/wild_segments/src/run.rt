@@ -90,7 +90,8 @@ fn segment_of_kind(alloc: Global, kind: SegmentKind, sections: SectionIndexes) -
     }
 }
 
-// Puts the segment of the kind that begins at the section of this number, if one does, behind the others.
+// Puts the segment of the kind that begins at the section of this number, if one does, behind the
+// others.
 fn push_run(
     alloc: Global,
     segments: &mut Items<PlacedSegment>,

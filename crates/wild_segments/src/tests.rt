@@ -24,7 +24,8 @@ struct Section {
     headers: Vec<Name>,
 }
 
-// How a section is written: the letters of its flags, its region or nothing, its mark, and the headers that it names.
+// How a section is written: the letters of its flags, its region or nothing, its mark, and the
+// headers that it names.
 type Row<'a> = (&'a [u8], &'a [u8], Mark, &'a [&'a [u8]]);
 
 fn flags_of(letters: &[u8]) -> InputFlags {
@@ -185,18 +186,18 @@ fn headers(rt: HostRuntime) -> Result<(), Fail> {
     let note = Name::new(alloc, b"note")?;
     let headers = [
         SegmentHeader {
-            name: &text,
-            ptype: 1,
-            flags: None,
-            has_filehdr: true,
-            has_phdrs: true,
-        },
-        SegmentHeader {
             name: &data,
             ptype: 1,
             flags: Some(6),
-            has_filehdr: false,
+            has_filehdr: true,
             has_phdrs: false,
+        },
+        SegmentHeader {
+            name: &text,
+            ptype: 1,
+            flags: None,
+            has_filehdr: false,
+            has_phdrs: true,
         },
         SegmentHeader {
             name: &note,
@@ -210,15 +211,15 @@ fn headers(rt: HostRuntime) -> Result<(), Fail> {
         (b"AX", b"", Mark::Plain, &[b"text"]),
         (b"AWX", b"", Mark::Starts, &[b"data"]),
         (b"A", b"", Mark::Floats, &[b"text", b"data"]),
-        (b"AW", b"", Mark::Plain, &[b"NONE"]),
+        (b"AW", b"", Mark::Plain, &[b"NONE", b"text"]),
         (b"AW", b"", Mark::Plain, &[]),
     ];
     let segments = found(alloc, true, &headers, &rows)?;
-    let wanted = "1 5text 0 2; 1 6data 1 2; 4 4note; ";
+    let wanted = "1 6data 1 2; 1 7text 0 2 3; 4 4note; ";
     assert_eq!(rt; shown(alloc, segments.as_slice())?.as_str(), wanted);
     for (number, segment) in segments.as_slice().iter().enumerate() {
         assert!(rt; segment.has_filehdr == (number == 0));
-        assert!(rt; segment.has_phdrs == (number == 0));
+        assert!(rt; segment.has_phdrs == (number == 1));
     }
     Ok(())
 }
