@@ -1,7 +1,7 @@
 -- A relation that goes on through steps and holds of the leaves holds of each kind of node, and so of values.
 use Rattle.std.proofs.Common.{◌≡◌, ℕ, zero, suc, Bool, true, false, ◌^◌, not, ◌||◌, ◌==◌, cond, List, ◌∷◌, Option, Some, None, Result, Ok, Err, refl, subst}
 use Rattle.wild_names.specs.declared.fault.Fault.{Fault}
-use Rattle.wild_names.specs.declared.fault.Fault.TheVariants.{AlignZero, AssertFailed, DeepValue, SymbolCycle, UnknownRegion}
+use Rattle.wild_names.specs.declared.fault.Fault.TheVariants.{AlignZero, AssertFailed, DeepValue, SymbolCycle}
 use Rattle.wild_expression_tree.specs.declared.tree.Expression.{Expression}
 use Rattle.wild_expression_tree.specs.Shape.{Shape, Number, LocationCounter, SizeofHeaders, Symbol, Named, Ternary, Align, SegmentStart, Assert, shape}
 use Rattle.wild_expression_tree.specs.declared.operator.Arithmetic.{Arithmetic}
