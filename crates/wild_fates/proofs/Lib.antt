@@ -6,3 +6,7 @@ pub mod Patterns
 pub mod Orphaned
 pub mod Orphans
 pub mod Parts
+pub mod LastListed
+pub mod SectionHeaders
+pub mod Ends
+pub mod InOrder

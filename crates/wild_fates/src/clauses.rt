@@ -15,8 +15,8 @@ use wild_base::{Alignment, Fault};
 use wild_eval::{ConstFault, evaluate_const};
 use wild_script_tree::{ContentsCommand, Expression, Fill, Section};
 
-// Why a statement has no constant.
-fn constant_fault(statement: usize, reason: ConstFault) -> Fault
+/// Why a statement has no constant.
+pub fn constant_fault(statement: usize, reason: ConstFault) -> Fault
     ensures { result ≡ spec.constant_fault statement reason }
 {
     match reason {

@@ -1,6 +1,7 @@
 //! What is checked of the format of the output.
 
 ghost use Rattle.std.specs.Prelude.{◌≡◌};
+ghost use Rattle.std.specs.Option.{unwrap_or};
 ghost use Rattle.wild_plan_spec.specs.Checks as spec;
 ghost use Rattle.wild_plan_spec.specs.Checks.{failing};
 ghost use Rattle.wild_fates.specs.Passes.{Passes};
@@ -10,17 +11,22 @@ use wild_base::{Architecture, Endianness, Fault, Name};
 use wild_plan_spec::PlanOptions;
 use wild_script_tree::OutputFormat;
 
+fn name_or<'a>(name: &'a Option<Name>, default: &'a Name) -> &'a Name
+    ensures { result.now ≡ unwrap_or name.now default.now }
+{
+    match name {
+        Some(name) => name,
+        None => default,
+    }
+}
+
 // The name of a format for this order of bytes: the one for big or for little, where there is one.
 fn format_for(endian: Option<Endianness>, format: &OutputFormat) -> &Name
     ensures { result.now ≡ spec.format_for endian format.now }
 {
-    let name = match endian {
-        Some(Endianness::Big) => format.big.as_ref(),
-        Some(Endianness::Little) => format.little.as_ref(),
-        None => None,
-    };
-    match name {
-        Some(name) => name,
+    match endian {
+        Some(Endianness::Big) => name_or(&format.big, &format.default),
+        Some(Endianness::Little) => name_or(&format.little, &format.default),
         None => &format.default,
     }
 }

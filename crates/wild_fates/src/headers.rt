@@ -1,23 +1,27 @@
 //! The program headers of a script and those that hold its sections, and what is checked of them.
 
-ghost use Rattle.std.specs.Prelude.{◌≡◌, [], ◌∷◌, ◌++◌, IfOk, OnOk, Some, map};
-ghost use Rattle.std.specs.Option.{option_map};
-ghost use Rattle.wild_names.specs.declared.fault.Fault.TheVariants.{DuplicateName};
-ghost use Rattle.wild_plan_spec.specs.Checks.{failing, header_checks, header_name_checks, header_number_checks, is_none_name, name_checks, phdrs_checks};
+ghost use Rattle.std.specs.Prelude.{◌≡◌, [], ◌++◌, ◌||◌, IfOk, OnOk, Some, map};
+ghost use Rattle.std.specs.Option.{option_map, option_to_list};
+ghost use Rattle.std.specs.List.{list_any};
+ghost use Rattle.wild_numbering.specs.Numbering.{is_named};
+ghost use Rattle.wild_names.specs.declared.fault.Fault.TheVariants.{DuplicateName, UnknownPhdr};
+ghost use Rattle.wild_plan_spec.specs.Checks.{check, failing, header_checks, header_name_checks, header_number_checks, is_none_name, name_checks, phdrs_checks};
 ghost use Rattle.wild_plan_spec.specs.Headers as spec;
 ghost use Rattle.wild_plan_spec.specs.Regions.{last_or};
 ghost use Rattle.wild_value_spec.specs.Const.{const, number_in};
 ghost use Rattle.wild_fates.specs.Memories.{headers_behind, headers_here, shown_headers};
-ghost use Rattle.wild_fates.specs.Passes.{Passes, repeated};
+ghost use Rattle.wild_fates.specs.Passes.{Passes};
 ghost use Rattle.wild_fates.specs.Shown.{shown_place, shown_places};
 ghost use Rattle.wild_fates.specs.Targets.{targets};
 
-use crate::clauses::number_or_fault;
+use crate::clauses::constant_fault;
+use crate::distinct::push_distinct;
 use crate::places::Place;
 use crate::statements::is_discard;
 use sqlite_items::Items;
 use std::alloc::Global;
 use wild_base::{Fault, Name, NoMemory};
+use wild_eval::evaluate_const;
 use wild_numbering::Numbering;
 use wild_script_tree::{Command, Expression, Phdr, SectionCommand};
 use wild_segments::SegmentHeader;
@@ -40,13 +44,13 @@ fn no_headers<'a>() -> HeadersAt<'a>
     }
 }
 
-// The PHDRS at a place, or else the one that was found before.
-fn headers_after<'a>(found: HeadersAt<'a>, place: usize, statement: &Place<'a>) -> HeadersAt<'a>
-    ensures { shown_headers result ≡ last_or (shown_headers found.entry) (spec.header_list_at place (shown_place statement.now)) }
+// The PHDRS that stands at a place, if one does.
+fn headers_at<'a>(place: usize, statement: &Place<'a>) -> Option<HeadersAt<'a>>
+    ensures { option_to_list (option_map shown_headers result) ≡ spec.header_list_at place (shown_place statement.now) }
 {
     match *statement {
-        Place::Headers(headers) => HeadersAt { place, headers },
-        _ => found,
+        Place::Headers(headers) => Some(HeadersAt { place, headers }),
+        _ => None,
     }
 }
 
@@ -54,11 +58,13 @@ fn headers_after<'a>(found: HeadersAt<'a>, place: usize, statement: &Place<'a>) 
 pub fn last_headers<'a>(places: &[Place<'a>]) -> HeadersAt<'a>
     ensures { shown_headers result ≡ last_or spec.no_headers (spec.header_lists 0 (shown_places places.now)) }
 {
-    let mut found = no_headers();
-    for (place, statement) in places.iter().enumerate() {
-        found = headers_after(found, place, statement);
+    for place in (0..places.len()).rev() {
+        match headers_at(place, &places[place]) {
+            Some(headers) => return headers,
+            None => {}
+        }
     }
-    found
+    no_headers()
 }
 
 // ---- numbers
@@ -68,13 +74,13 @@ fn check_number(statement: usize, index: usize, number: &Expression) -> Result<u
     ensures number { IfOk result (λ n. n ≡ spec.four_bytes (number_in (const number.now))) }
     ensures passes { Passes (failing (header_number_checks statement index (Some number.now))) result }
 {
-    let value = number_or_fault(statement, number)?;
-    match u32::try_from(value) {
-        Ok(number) => Ok(number),
-        Err(_) => Err(Fault::BadHeader {
+    match evaluate_const(number) {
+        Ok(value) if value >= 1 << 32 => Err(Fault::BadHeader {
             index: index as u64,
             value,
         }),
+        Ok(value) => Ok(value as u32),
+        Err(reason) => Err(constant_fault(statement, reason)),
     }
 }
 
@@ -114,6 +120,7 @@ fn check_header<'a>(
 }
 
 /// The headers of a PHDRS with their numbers. The fault is that of the first that has no type or no flags of four bytes.
+#[tactic(auto, using(std::proofs::lemmas::Grind::common_steps, crate::proofs::Failing::failing_after))]
 pub fn check_headers<'a>(
     alloc: Global,
     list: &HeadersAt<'a>,
@@ -122,25 +129,14 @@ pub fn check_headers<'a>(
     ensures passes { Passes (failing (phdrs_checks (shown_headers list.now))) result }
 {
     let mut headers = Items::new(alloc);
-    for (index, header) in list.headers.iter().enumerate() {
+    let all = list.headers;
+    for (index, header) in all.iter().enumerate() {
         headers.push(check_header(list.place, index, header)?)?;
     }
     Ok(headers)
 }
 
 // ---- names
-
-fn push_header(alloc: Global, names: &mut Numbering, name: &Name) -> Result<(), Fault>
-    ensures pushed { OnOk result (names.new ≡ names.old ++ name.now ∷ []) }
-    ensures passes { Passes (repeated DuplicateName names.old name.now) result }
-{
-    if names.get(name).is_some() {
-        let name = name.copy(alloc)?;
-        return Err(Fault::DuplicateName { name });
-    }
-    names.push(alloc, name)?;
-    Ok(())
-}
 
 /// The names of headers, of which no two are the same. The fault is that of the first with the name of an earlier one.
 pub fn number_headers(alloc: Global, headers: &[Phdr]) -> Result<Numbering, Fault>
@@ -149,7 +145,7 @@ pub fn number_headers(alloc: Global, headers: &[Phdr]) -> Result<Numbering, Faul
 {
     let mut names = Numbering::new(alloc);
     for header in headers {
-        push_header(alloc, &mut names, &header.name)?;
+        push_distinct(alloc, &mut names, &header.name)?;
     }
     Ok(names)
 }
@@ -162,8 +158,9 @@ fn is_none_name(name: &Name) -> bool
 }
 
 // A header that a section names is among these.
+#[tactic(auto, using(crate::proofs::Names::any_number))]
 fn check_header_name(alloc: Global, names: &Numbering, name: &Name) -> Result<(), Fault>
-    ensures { Passes (failing (header_name_checks names.now (name.now ∷ []))) result }
+    ensures { Passes (failing (check (is_none_name name.now || list_any (is_named name.now) names.now) (UnknownPhdr name.now))) result }
 {
     if is_none_name(name) || names.get(name).is_some() {
         return Ok(());
@@ -173,6 +170,7 @@ fn check_header_name(alloc: Global, names: &Numbering, name: &Name) -> Result<()
 }
 
 /// The headers that a section names are among these. The fault is that of the first that is not.
+#[tactic(auto, using(std::proofs::lemmas::Grind::common_steps, crate::proofs::Failing::failing_after))]
 pub fn check_header_names(alloc: Global, names: &Numbering, named: &[Name]) -> Result<(), Fault>
     ensures { Passes (failing (header_name_checks names.now named.now)) result }
 {
@@ -218,6 +216,7 @@ fn push_headers<'a>(
 }
 
 // Those of the sections of a SECTIONS, after the others.
+#[tactic(auto, using(crate::proofs::SectionHeaders::headers_step))]
 fn push_section_headers<'a>(
     all: &mut Items<&'a [Name]>,
     commands: &'a [SectionCommand],

@@ -2,6 +2,7 @@
 #![tactic(auto)]
 
 mod clauses;
+mod distinct;
 mod fates;
 mod formats;
 mod headers;

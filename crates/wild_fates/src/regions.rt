@@ -1,15 +1,17 @@
 //! The memory regions of a script, and what is checked of them.
 
-ghost use Rattle.std.specs.Prelude.{◌≡◌, [], ◌∷◌, ◌++◌, IfOk, OnOk, map};
+ghost use Rattle.std.specs.Prelude.{◌≡◌, [], ◌++◌, IfOk, map};
+ghost use Rattle.std.specs.Option.{option_map, option_to_list};
 ghost use Rattle.wild_names.specs.declared.fault.Fault.TheVariants.{DuplicateName};
 ghost use Rattle.wild_plan_spec.specs.Checks.{all_region_checks, failing, header_name_checks, name_checks, reference_checks, region_check, region_checks};
 ghost use Rattle.wild_plan_spec.specs.Regions.{last_or, memories, memory_at, names_in, no_memory, region_of};
 ghost use Rattle.wild_fates.specs.Memories.{shown_memory};
-ghost use Rattle.wild_fates.specs.Passes.{Passes, repeated};
+ghost use Rattle.wild_fates.specs.Passes.{Passes};
 ghost use Rattle.wild_fates.specs.Shown.{shown_place, shown_places};
 ghost use Rattle.wild_fates.specs.Targets.{targets};
 
 use crate::clauses::number_or_fault;
+use crate::distinct::push_distinct;
 use crate::headers::check_header_names;
 use crate::places::Place;
 use sqlite_items::Items;
@@ -47,13 +49,13 @@ fn no_memory<'a>() -> MemoryAt<'a>
     }
 }
 
-// The MEMORY at a place, or else the one that was found before.
-fn memory_after<'a>(found: MemoryAt<'a>, place: usize, statement: &Place<'a>) -> MemoryAt<'a>
-    ensures { shown_memory result ≡ last_or (shown_memory found.entry) (memory_at place (shown_place statement.now)) }
+// The MEMORY that stands at a place, if one does.
+fn memory_at<'a>(place: usize, statement: &Place<'a>) -> Option<MemoryAt<'a>>
+    ensures { option_to_list (option_map shown_memory result) ≡ memory_at place (shown_place statement.now) }
 {
     match *statement {
-        Place::Memory(regions) => MemoryAt { place, regions },
-        _ => found,
+        Place::Memory(regions) => Some(MemoryAt { place, regions }),
+        _ => None,
     }
 }
 
@@ -61,11 +63,13 @@ fn memory_after<'a>(found: MemoryAt<'a>, place: usize, statement: &Place<'a>) ->
 pub fn last_memory<'a>(places: &[Place<'a>]) -> MemoryAt<'a>
     ensures { shown_memory result ≡ last_or no_memory (memories 0 (shown_places places.now)) }
 {
-    let mut found = no_memory();
-    for (place, statement) in places.iter().enumerate() {
-        found = memory_after(found, place, statement);
+    for place in (0..places.len()).rev() {
+        match memory_at(place, &places[place]) {
+            Some(memory) => return memory,
+            None => {}
+        }
     }
-    found
+    no_memory()
 }
 
 // The origin and the length of a region of the MEMORY at this place, whose end must be a number.
@@ -80,6 +84,7 @@ fn check_region(statement: usize, region: &MemoryRegion) -> Result<Region, Fault
 }
 
 /// Where the regions of a MEMORY stand. The fault is that of the first that has no origin, no length or no end.
+#[tactic(auto, using(std::proofs::lemmas::Grind::common_steps, crate::proofs::Failing::failing_after))]
 pub fn check_regions(alloc: Global, memory: &MemoryAt<'_>) -> Result<Items<Region>, Fault>
     ensures regions { IfOk result (λ regions. regions ≡ map region_of memory.now.regions.now) }
     ensures passes { Passes (failing (all_region_checks memory.now.place memory.now.regions.now)) result }
@@ -93,18 +98,6 @@ pub fn check_regions(alloc: Global, memory: &MemoryAt<'_>) -> Result<Items<Regio
 
 // ---- names
 
-fn push_region(alloc: Global, names: &mut Numbering, name: &Name) -> Result<(), Fault>
-    ensures pushed { OnOk result (names.new ≡ names.old ++ name.now ∷ []) }
-    ensures passes { Passes (repeated DuplicateName names.old name.now) result }
-{
-    if names.get(name).is_some() {
-        let name = name.copy(alloc)?;
-        return Err(Fault::DuplicateName { name });
-    }
-    names.push(alloc, name)?;
-    Ok(())
-}
-
 /// The names of regions, of which no two are the same. The fault is that of the first with the name of an earlier one.
 pub fn number_regions(alloc: Global, regions: &[MemoryRegion]) -> Result<Numbering, Fault>
     ensures names { IfOk result (λ names. names ≡ names_in regions.now) }
@@ -112,12 +105,13 @@ pub fn number_regions(alloc: Global, regions: &[MemoryRegion]) -> Result<Numberi
 {
     let mut names = Numbering::new(alloc);
     for region in regions {
-        push_region(alloc, &mut names, &region.name)?;
+        push_distinct(alloc, &mut names, &region.name)?;
     }
     Ok(names)
 }
 
 // The region that a section names, if it names one, is among these.
+#[tactic(auto, using(crate::proofs::Names::any_number))]
 fn check_reference(alloc: Global, names: &Numbering, region: &Option<Name>) -> Result<(), Fault>
     ensures { Passes (failing (region_check names.now region.now)) result }
 {
@@ -132,7 +126,7 @@ fn check_reference(alloc: Global, names: &Numbering, region: &Option<Name>) -> R
 }
 
 // The region and the headers that a section names are among these.
-#[tactic(auto, using(std::proofs::lemmas::Grind::common_steps, crate::proofs::Failing::none_after))]
+#[tactic(auto, using(std::proofs::lemmas::Grind::common_steps, crate::proofs::Failing::failing_after))]
 fn check_section(
     alloc: Global,
     regions: &Numbering,
@@ -146,6 +140,7 @@ fn check_section(
 }
 
 /// The regions and headers that sections name are among these. The fault is that of the first section with one that is not.
+#[tactic(auto, using(std::proofs::lemmas::Grind::common_steps, crate::proofs::Failing::failing_after))]
 pub fn check_references(
     alloc: Global,
     regions: &Numbering,

@@ -145,22 +145,21 @@ fn check_names<'a>(
 fn check_script<'a>(
     alloc: Global,
     options: &PlanOptions,
-    parts: &Parts<'a>,
+    places: &[Place<'a>],
+    sections: &[&'a Section],
 ) -> Result<Checked<'a>, Fault>
-    ensures rules { IfOk result (λ checked. checked.rules ≡ rules_in (shown_places parts.now.places)) }
-    ensures regions { IfOk result (λ checked. checked.regions.regions ≡ map region_of (memory_in (shown_places parts.now.places)).regions) }
-    ensures region_names { IfOk result (λ checked. checked.regions.names ≡ names_in (memory_in (shown_places parts.now.places)).regions) }
-    ensures headers { IfOk result (λ checked. checked.headers ≡ map header_of (headers_list (shown_places parts.now.places)).headers) }
-    ensures own { IfOk result (λ checked. checked.own ≡ names_of (targets parts.now.sections)) }
-    ensures passes { Passes (failing (parts_checks options.now (shown_places parts.now.places) (targets parts.now.sections))) result }
+    ensures rules { IfOk result (λ checked. checked.rules ≡ rules_in (shown_places places.now)) }
+    ensures regions { IfOk result (λ checked. checked.regions.regions ≡ map region_of (memory_in (shown_places places.now)).regions) }
+    ensures region_names { IfOk result (λ checked. checked.regions.names ≡ names_in (memory_in (shown_places places.now)).regions) }
+    ensures headers { IfOk result (λ checked. checked.headers ≡ map header_of (headers_list (shown_places places.now)).headers) }
+    ensures own { IfOk result (λ checked. checked.own ≡ names_of (targets sections.now)) }
+    ensures passes { Passes (failing (parts_checks options.now (shown_places places.now) (targets sections.now))) result }
 {
-    let places = parts.places.as_slice();
     let rules = find_rules(alloc, options, places)?;
     let memory = last_memory(places);
     let regions = check_regions(alloc, &memory)?;
     let list = last_headers(places);
     let headers = check_headers(alloc, &list)?;
-    let sections = parts.sections.as_slice();
     let names = check_names(alloc, memory.regions, list.headers, sections)?;
     let ScriptNames {
         regions: numbers,
@@ -234,7 +233,12 @@ pub fn decide_fates<'a>(
     ensures passes { Passes (failing (script_checks options.now commands.now)) result }
 {
     let parts = find_parts(alloc, commands)?;
-    let checked = check_script(alloc, options, &parts)?;
+    let checked = check_script(
+        alloc,
+        options,
+        parts.places.as_slice(),
+        parts.sections.as_slice(),
+    )?;
     let fates = decide_by(alloc, parts, checked, inputs.rows.as_slice())?;
     Ok(fates)
 }

@@ -8,4 +8,4 @@ abbrev pub invariant-loop-statement : goal.invariant-loop-statement
 invariant-loop-statement l =
     (l.numbered.rules ++ numbered_rules l.numbered.chunks (shown_places (drop l.statement l.places)) ≡ numbered_rules [] (shown_places l.places))
     × (l.numbered.chunks ++ chunks_in (shown_places (drop l.statement l.places)) ≡ chunks_in (shown_places l.places))
-    × (failing (place_checks l.statement (shown_places (drop l.statement l.places))) ≡ failing (place_checks 0 (shown_places l.places)))
+    × (failing (place_checks l.options l.statement (shown_places (drop l.statement l.places))) ≡ failing (place_checks l.options 0 (shown_places l.places)))
