@@ -13,10 +13,9 @@ use Rattle.wild_cli.specs.Answers.{LoadTold, Plans}
 use Rattle.wild_cli.specs.Device.{Got, max_length}
 use Rattle.wild_cli.specs.Due.{Answer, PlanOf, is_too_long, task_of_script, MeetsPlan, Agree, Settles}
 use Rattle.wild_cli.specs.Run.{Loading, Putting, HasCause, Ends, Told, Wrote}
-use Rattle.wild_cli.specs.Words.{plain_options}
 use Rattle.wild_table.specs.Table.{table}
-use Rattle.wild_cli.specs.declared.words.Request.{Request}
-use Rattle.wild_cli.specs.declared.words.Request.TheVariants.{Plan}
+use Rattle.wild_words.specs.declared.words.Request.{Request}
+use Rattle.wild_words.specs.declared.words.Request.TheVariants.{Plan}
 use Rattle.wild_cli.specs.declared.refusal.Refusal as r
 use Rattle.wild_cli.specs.declared.refusal.Refusal.TheVariants.{Fault, Usage, NotLoaded, NoMemory, BadRecord, TooLong}
 
@@ -54,21 +53,21 @@ fits : (content : List ℕ) → length content ≤ max_length → is_too_long co
 fits content h = le-ltb max_length (length content) h
 
 -- both files were loaded, and the table was read
-due_plan : (script name : Name) (sc tc : Option (List ℕ)) (a b : List ℕ) (inputs : InputTable) (answer : Answer)
-    → LoadTold sc a → LoadTold tc b → table b ≡ Ok inputs → Settles (PlanOf a inputs plain_options) answer
-    → IfSome (task_of_script script sc name tc) (λ task. Settles task answer)
-due_plan script name None tc a b inputs answer ha hb ht h = tt
-due_plan script name (Some x) None a b inputs answer ha hb ht h = rw (fits x ha.1) tt
-due_plan script name (Some x) (Some y) a b inputs answer ha hb ht h = rw (fits x ha.1, fits y hb.1, ← ha.0, ← hb.0, ht) h
+due_plan : (options : PlanOptions) (script name : Name) (sc tc : Option (List ℕ)) (a b : List ℕ) (inputs : InputTable) (answer : Answer)
+    → LoadTold sc a → LoadTold tc b → table b ≡ Ok inputs → Settles (PlanOf a inputs options) answer
+    → IfSome (task_of_script options script sc name tc) (λ task. Settles task answer)
+due_plan options script name None tc a b inputs answer ha hb ht h = tt
+due_plan options script name (Some x) None a b inputs answer ha hb ht h = rw (fits x ha.1) tt
+due_plan options script name (Some x) (Some y) a b inputs answer ha hb ht h = rw (fits x ha.1, fits y hb.1, ← ha.0, ← hb.0, ht) h
 
 -- ---- causes
 
-module _ (held : Name → Option (List ℕ)) (script name : Name) (files : Loading) where
+module _ (held : Name → Option (List ℕ)) (script name : Name) (options : PlanOptions) (files : Loading) where
   pub planned : (a b : List ℕ) (inputs : InputTable) (answer : Answer)
-      → LoadTold (held script) a → LoadTold (held name) b → table b ≡ Ok inputs → Plans a inputs plain_options answer
-      → HasCause held (Some (Plan script name)) files answer
-  planned a b inputs (Ok text) ha hb ht h = record { asked = refl; settles = due_plan script name (held script) (held name) a b inputs _ ha hb ht (text_settles a inputs plain_options text h) }
-  planned a b inputs (Err (Fault fault)) ha hb ht h = record { asked = refl; settles = due_plan script name (held script) (held name) a b inputs _ ha hb ht (fault_settles a inputs plain_options fault h) }
+      → LoadTold (held script) a → LoadTold (held name) b → table b ≡ Ok inputs → Plans a inputs options answer
+      → HasCause held (Some (Plan script name options)) files answer
+  planned a b inputs (Ok text) ha hb ht h = record { asked = refl; settles = due_plan options script name (held script) (held name) a b inputs _ ha hb ht (text_settles a inputs options text h) }
+  planned a b inputs (Err (Fault fault)) ha hb ht h = record { asked = refl; settles = due_plan options script name (held script) (held name) a b inputs _ ha hb ht (fault_settles a inputs options fault h) }
   planned a b inputs (Err NoMemory) ha hb ht h = tt
   planned a b inputs (Err Usage) ha hb ht h = absurd h
   planned a b inputs (Err (NotLoaded other)) ha hb ht h = absurd h

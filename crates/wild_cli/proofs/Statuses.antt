@@ -5,7 +5,7 @@ use Rattle.wild_cli.specs.Device.{Rose}
 use Rattle.wild_cli.specs.Due.{Answer, Task, task_of, Settles, Agree, IsDue, status_of_answer}
 use Rattle.wild_cli.specs.Refusal.{status_of, line_of}
 use Rattle.wild_cli.specs.Run.{Loading, Putting, HasCause, Written, WroteLine, Ends, Wrote, Broke, Outcome, Comes}
-use Rattle.wild_cli.specs.declared.words.Request.{Request}
+use Rattle.wild_words.specs.declared.words.Request.{Request}
 use Rattle.wild_cli.specs.declared.refusal.Refusal as r
 use Rattle.wild_cli.specs.declared.refusal.Refusal.TheVariants.{Fault, Usage, NotLoaded, NoMemory, BadRecord, TooLong}
 

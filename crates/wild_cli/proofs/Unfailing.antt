@@ -4,7 +4,7 @@ use Rattle.wild_plan_spec.specs.Names.{Name}
 use Rattle.wild_cli.specs.Device.{Rose}
 use Rattle.wild_cli.specs.Due.{Answer, Task, task_of, Meets, status_of_answer}
 use Rattle.wild_cli.specs.Run.{Loading, Putting, Outcome, Comes}
-use Rattle.wild_cli.specs.declared.words.Request.{Request}
+use Rattle.wild_words.specs.declared.words.Request.{Request}
 
 module _ (files : Loading) (out err : Putting) (status : ℕ) (no_load : Rose files.before files.now → ⊥) (no_out : Rose out.before out.now → ⊥) (no_err : Rose err.before err.now → ⊥) where
   -- of the four ends two are left

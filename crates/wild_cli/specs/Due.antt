@@ -9,10 +9,9 @@ use Rattle.wild_plan_spec.specs.Text.{plan_text}
 use Rattle.wild_plan.specs.Planned.{IsPlan, IsFault}
 use Rattle.wild_cli.specs.Device.{max_length}
 use Rattle.wild_cli.specs.Refusal.{status_of}
-use Rattle.wild_cli.specs.Words.{plain_options}
 use Rattle.wild_table.specs.Table.{table}
-use Rattle.wild_cli.specs.declared.words.Request.{Request}
-use Rattle.wild_cli.specs.declared.words.Request.TheVariants.{Plan}
+use Rattle.wild_words.specs.declared.words.Request.{Request}
+use Rattle.wild_words.specs.declared.words.Request.TheVariants.{Plan}
 use Rattle.wild_cli.specs.declared.refusal.Refusal as r
 use Rattle.wild_cli.specs.declared.refusal.Refusal.TheVariants as refusal
 
@@ -35,24 +34,25 @@ abbrev pub is_too_long : List ℕ → Bool
 is_too_long content = nat_lt max_length (length content)
 
 -- the script is at hand, and this is what its table says
-abbrev pub task_of_inputs : List ℕ → Result InputTable ℕ → Task
-task_of_inputs script (Ok inputs) = PlanOf script inputs plain_options
-task_of_inputs script (Err index) = BadTable index
+abbrev pub task_of_inputs : PlanOptions → List ℕ → Result InputTable ℕ → Task
+task_of_inputs options script (Ok inputs) = PlanOf script inputs options
+task_of_inputs options script (Err index) = BadTable index
 
 -- the script is at hand; the table is this, where it is told
-abbrev pub task_of_table : List ℕ → Name → Option (List ℕ) → Option Task
-task_of_table script name None = None
-task_of_table script name (Some content) = Some (if is_too_long content then LongFile name else task_of_inputs script (table content))
+abbrev pub task_of_table : PlanOptions → List ℕ → Name → Option (List ℕ) → Option Task
+task_of_table options script name None = None
+task_of_table options script name (Some content) = Some (if is_too_long content then LongFile name else task_of_inputs options script (table content))
 
 -- the script is this, and the table this, where they are told
-abbrev pub task_of_script : Name → Option (List ℕ) → Name → Option (List ℕ) → Option Task
-task_of_script name None table_name table_content = None
-task_of_script name (Some content) table_name table_content = if is_too_long content then Some (LongFile name) else task_of_table content table_name table_content
+abbrev pub task_of_script : PlanOptions → Name → Option (List ℕ) → Name → Option (List ℕ) → Option Task
+task_of_script options name None table_name table_content = None
+task_of_script options name (Some content) table_name table_content =
+    if is_too_long content then Some (LongFile name) else task_of_table options content table_name table_content
 
 -- the task, where the files that decide it are told
 abbrev pub task_of : (Name → Option (List ℕ)) → Option Request → Option Task
 task_of held None = Some NoCommand
-task_of held (Some (Plan script name)) = task_of_script script (held script) name (held name)
+task_of held (Some (Plan script name options)) = task_of_script options script (held script) name (held name)
 
 -- ---- answers
 

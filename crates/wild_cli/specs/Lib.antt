@@ -1,6 +1,5 @@
 pub mod Device
 pub mod Shelf
-pub mod Words
 pub mod Refusal
 pub mod Due
 pub mod Run

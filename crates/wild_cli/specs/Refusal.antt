@@ -2,8 +2,8 @@
 use Rattle.std.specs.Prelude.{ℕ, List, [], ◌∷◌, ◌++◌, codes, decimal}
 use Rattle.wild_plan_spec.specs.Text.{printed_name}
 use Rattle.wild_plan_spec.specs.FaultText.{fault_text}
-use Rattle.wild_cli.specs.declared.words.WordsFault.{WordsFault}
-use Rattle.wild_cli.specs.declared.words.WordsFault.TheVariants as words
+use Rattle.wild_words.specs.declared.words.WordsFault.{WordsFault}
+use Rattle.wild_words.specs.declared.words.WordsFault.TheVariants as words
 use Rattle.wild_table.specs.declared.table.TableFault.{TableFault}
 use Rattle.wild_table.specs.declared.table.TableFault.TheVariants as table
 use Rattle.wild_cli.specs.declared.refusal.Refusal as r

@@ -5,8 +5,8 @@ use Rattle.wild_plan_spec.specs.Names.{Name}
 use Rattle.wild_cli.specs.Device.{Rose, Got, GotPrefix}
 use Rattle.wild_cli.specs.Due.{Answer, Task, task_of, Meets, IsDue, status_of_answer}
 use Rattle.wild_cli.specs.Refusal.{status_of, line_of}
-use Rattle.wild_cli.specs.declared.words.Request.{Request}
-use Rattle.wild_cli.specs.declared.words.Request.TheVariants.{Plan}
+use Rattle.wild_words.specs.declared.words.Request.{Request}
+use Rattle.wild_words.specs.declared.words.Request.TheVariants.{Plan}
 use Rattle.wild_cli.specs.declared.refusal.Refusal as r
 use Rattle.wild_cli.specs.declared.refusal.Refusal.TheVariants.{Fault, Usage, NotLoaded, NoMemory, BadRecord, TooLong}
 
@@ -46,7 +46,7 @@ Broke sink piece = Rose sink.before sink.now × GotPrefix sink.got_before sink.g
 -- the name is one of the files of the words
 abbrev pub Names : Option Request → Name → Type 0
 Names None name = ⊥
-Names (Some (Plan script table)) name = (name ≡ script) ⊎ (name ≡ table)
+Names (Some (Plan script table options)) name = (name ≡ script) ⊎ (name ≡ table)
 
 -- an answer has its cause
 abbrev pub HasCause : (Name → Option (List ℕ)) → Option Request → Loading → Answer → Type 0

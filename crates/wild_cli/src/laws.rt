@@ -5,7 +5,7 @@ ghost use Rattle.wild_plan_spec.specs.Names.{Name};
 ghost use Rattle.wild_cli.specs.Device.{Rose};
 ghost use Rattle.wild_cli.specs.Due.{Answer, Task, task_of, Meets, status_of_answer};
 ghost use Rattle.wild_cli.specs.Run.{Loading, Putting, Outcome};
-ghost use Rattle.wild_cli.specs.declared.words.Request.{Request};
+ghost use Rattle.wild_words.specs.declared.words.Request.{Request};
 
 /// Where no load and no put failed, a run ends with the status of each answer that meets its task, unless memory ran
 /// out. So it ends with 0 where a plan fits.

@@ -8,7 +8,6 @@ mod refusal;
 mod running;
 mod shelf;
 mod sure;
-mod words;
 
 pub use device::{Files, LoadFault, Sink, SinkFault};
 pub use laws::{count_at_zero_never_rose, unfailing_runs_end};
@@ -17,7 +16,7 @@ pub use running::run;
 pub use shelf::{FailingPut, Shelf, Tray};
 pub use sure::{ShelfFile, SureShelf, SureTray};
 pub use wild_table::{TableFault, read_number, read_table};
-pub use words::{Request, WordsFault, read_words};
+pub use wild_words::{Request, WordsFault, read_words};
 
 #[cfg(test)]
 mod pattern_tests;

@@ -1,30 +1,16 @@
 //! Runs a command: from words and files to what is written.
 
 ghost use Rattle.std.specs.Prelude.{◌≡◌, Some};
-ghost use Rattle.wild_cli.specs.declared.words.Request.TheVariants.{Plan};
-ghost use Rattle.wild_cli.specs.Words.{command, plain_options};
+ghost use Rattle.wild_words.specs.declared.words.Request.TheVariants.{Plan};
+ghost use Rattle.wild_words.specs.Words.{command};
 ghost use Rattle.wild_cli.specs.Answers.{LoadsFile, FileCounts, Plans};
 ghost use Rattle.wild_cli.specs.Run.{loading, putting, HasCause, Ends, Outcome, Told, WroteLine};
 
 use crate::refusal::Refusal;
 use crate::{Files, LoadFault, Request, Sink, SinkFault, read_table, read_words};
 use std::alloc::Global;
-use wild_names::{Architecture, Fault, Name, RelocationModel};
+use wild_names::{Fault, Name};
 use wild_plan::{InputTable, PlanOptions, plan};
-use wild_sections::OutputKind;
-
-// What a plan is made for, as long as no word asks for anything else.
-fn plain_options() -> PlanOptions
-    ensures { result ≡ plain_options }
-{
-    PlanOptions {
-        architecture: Architecture::X86_64,
-        endian: None,
-        kind: OutputKind::StaticExecutable(RelocationModel::Fixed),
-        header_size: 0,
-        segment_starts: [None, None, None],
-    }
-}
 
 /// Does what the words ask for, and answers the status. The text goes to `out`, and the line of a refusal to `err`.
 pub fn run<F: Files, O: Sink, E: Sink>(
@@ -65,23 +51,28 @@ fn answer<F: Files>(alloc: Global, words: &[Name], files: &mut F) -> Result<Name
     ensures { HasCause (F.held files.old) (command words.now) (loading F.faults F.failed files.old files.new) result }
 {
     match read_words(alloc, words)? {
-        Request::Plan { script, table } => plan_files(alloc, files, script, table),
+        Request::Plan {
+            script,
+            table,
+            options,
+        } => plan_files(alloc, files, script, table, &options),
     }
 }
 
-// The text of the plan of two files.
+// The text of the plan of two files, made for these options.
 fn plan_files<F: Files>(
     alloc: Global,
     files: &mut F,
     script: Name,
     table: Name,
+    options: &PlanOptions,
 ) -> Result<Name, Refusal>
-    ensures { HasCause (F.held files.old) (Some (Plan script table)) (loading F.faults F.failed files.old files.new) result }
+    ensures { HasCause (F.held files.old) (Some (Plan script table options.now)) (loading F.faults F.failed files.old files.new) result }
 {
     let script = load(alloc, files, script)?;
     let table = load(alloc, files, table)?;
     let inputs = read_table(alloc, &table)?;
-    text_of(alloc, &script, &inputs, &plain_options())
+    text_of(alloc, &script, &inputs, options)
 }
 
 fn load<F: Files>(alloc: Global, files: &mut F, name: Name) -> Result<Vec<u8>, Refusal>

@@ -1,0 +1,4 @@
+pub mod Choice
+pub mod Options
+pub mod SoFar
+pub mod Words
