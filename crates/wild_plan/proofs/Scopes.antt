@@ -68,11 +68,15 @@ scopes_same : {n m : ℕ → Name} {s r : Name → Option ℕ} {a b : ℕ → �
     → n ≡ m → s ≡ r → a ≡ b → d ≡ e → ds ≡ es → f ≡ g → scope_by n s a d ds l f t h ≡ scope_by m r b e es l g t h
 scopes_same p q r u v w = rw (p, q, r, u, v, w) refl
 
+-- the region of a name, where regions have these names and numbers
+abbrev region_by : List Name → List Region → Name → Option Region
+region_by names regions x = region_at regions (number_of x names)
+
 -- what is said by lists of names, alignments, entries and regions as they are kept, and by what is asked for
 abbrev kept_scope : List (Bor Name) → List Name → List ℕ → List Name → List SymbolEntry → Bytes → List Name → List Region → List (Option ℕ) → ℕ → Scope
 kept_scope sections numbers alignments symbols entries script region_numbers regions starts headers =
     scope_by (λ s. kept.or_empty (slice_get sections s)) (λ x. number_of x numbers) (λ s. unwrap_or (slice_get alignments s) 0) (λ x. number_of x symbols) (kept.shown_definitions entries) (λ i. line_of script i)
-    (λ x. region_at regions (number_of x region_numbers)) (λ x. asked_start starts x) headers
+    (region_by region_numbers regions) (λ x. asked_start starts x) headers
 
 -- ---- the ground
 
@@ -90,10 +94,8 @@ module _ (c : Case) where
       ∙ ap (λ (xs : List Name). or_empty (slice_get xs s)) a
       ∙ sym (name_said (sections_of c.commands) (section_headers c.commands) c.inputs.rows (fates_of c.commands c.inputs) 0 (section_names c.commands c.inputs) s)
 
-  regions_said : (numbers : List Name) (regions : List Region) → numbers ≡ region_names c.commands → regions ≡ regions_of c.commands
-      → (λ (x : Name). region_at regions (number_of x numbers)) ≡ (λ (x : Name). region_at (regions_of c.commands) (number_of x (region_names c.commands)))
-  regions_said numbers regions a b =
-      ap (λ (xs : List Name). λ (x : Name). region_at regions (number_of x xs)) a ∙ ap (λ (rs : List Region). λ (x : Name). region_at rs (number_of x (region_names c.commands))) b
+  regions_said : (numbers : List Name) (regions : List Region) → numbers ≡ region_names c.commands → regions ≡ regions_of c.commands → region_by numbers regions ≡ region_by (region_names c.commands) (regions_of c.commands)
+  regions_said numbers regions a b = rw (a, b) refl
 
   scope_said : (sections : List (Bor Name)) (numbers : List Name) (alignments : List ℕ) (symbols : List Name) (entries : List SymbolEntry) (region_numbers : List Name) (regions : List Region)
       → targets sections ≡ section_names c.commands c.inputs → numbers ≡ section_names c.commands c.inputs → alignments ≡ alignments_in said

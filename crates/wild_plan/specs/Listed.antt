@@ -17,11 +17,11 @@ shown_lists cs l = record { commands = cs; sections = l.sections; placements = l
 
 -- the lists of a table whose rows have these fates and whose sections these facts, where this stands after the last place, and
 -- these are the segments, and the symbols of the script
-pub record AreLists (segments : Segments) (inputs : InputTable) (fates : List (Option Kept)) (facts : List Facts) (state : State) (found : List PlacedSymbol) (lists : Lists) : Type 0 where
+pub record AreLists (known : Segments) (inputs : InputTable) (fates : List (Option Kept)) (facts : List Facts) (state : State) (found : List PlacedSymbol) (lists : Lists) : Type 0 where
   pub sections : lists.sections ≡ placed_sections state.known 0 facts
   pub placements : lists.placements ≡ placed_inputs state.known 0 fates
   pub locations : lists.locations ≡ state.locations
-  pub segments : lists.segments ≡ segments.list
-  pub by_headers : lists.by_headers ≡ segments.by_headers
+  pub segments : lists.segments ≡ known.list
+  pub by_headers : lists.by_headers ≡ known.by_headers
   pub symbols : lists.symbols ≡ wrapped_symbols state.known fates inputs.symbols ++ found
   pub names : lists.names ≡ row_names inputs.rows
