@@ -10,7 +10,7 @@ import random
 import subprocess
 import sys
 import tempfile
-from dataclasses import dataclass
+from dataclasses import dataclass, field
 
 MOST_SHOWN = 3
 
@@ -21,6 +21,8 @@ class Case:
     table: str
     # The status, the text on standard output and the line on standard error.
     answer: tuple
+    # The options behind the names of the files.
+    words: list = field(default_factory=list)
 
 
 class Fault(Exception):
@@ -50,7 +52,7 @@ def answered(program, folder, case):
     for path, text in zip(paths, (case.script, case.table)):
         with open(path, "w", encoding="utf-8") as file:
             file.write(text)
-    ran = subprocess.run([program, "plan", *paths], capture_output=True, check=False)
+    ran = subprocess.run([program, "plan", *paths, *case.words], capture_output=True, check=False)
     return ran.returncode, ran.stdout.decode(), ran.stderr.decode()
 
 
@@ -68,7 +70,7 @@ def compare_all(make, shown=lambda text: text, worked=()):
             if (status, shown(out), err) != case.answer:
                 differing += 1
                 if differing <= MOST_SHOWN:
-                    print(f"case {number}\n{case.script}\n{case.table}expected {case.answer}\n"
+                    print(f"case {number}\n{case.script}\n{case.table}{' '.join(case.words)}\nexpected {case.answer}\n"
                           f"answered {(status, shown(out), err)}\n")
     total = sum(kinds.values())
     print(f"{differing} of {total} differ:", ", ".join(f"{kind} {times}" for kind, times in kinds.most_common()))

@@ -88,13 +88,10 @@ class Assert:
 NODES = (Number, Here, Headers, Symbol, Of, Unary, Binary, Call, Choice, Align, Segment, Assert)
 
 
-def is_built(expression):
-    """Whether no node, read or not, asks for memory regions, segments or headers."""
-    if isinstance(expression, (Headers, Segment)):
-        return False
-    if isinstance(expression, Of) and expression.word in ("ORIGIN", "LENGTH"):
-        return False
-    return all(is_built(part) for part in vars(expression).values() if isinstance(part, NODES))
+def asks_for_start(expression):
+    """Whether SEGMENT_START stands in it, read or not."""
+    parts = [part for part in vars(expression).values() if isinstance(part, NODES)]
+    return isinstance(expression, Segment) or any(asks_for_start(part) for part in parts)
 
 
 # ---- random expressions
@@ -102,6 +99,7 @@ def is_built(expression):
 LEVELS = {"||": 2, "&&": 3, "<=": 4, ">=": 4, "==": 4, "!=": 4, "<": 4, ">": 4, "|": 5, "^": 6, "&": 7,
           "<<": 8, ">>": 8, "+": 9, "-": 9, "*": 10, "/": 10, "%": 10}
 QUESTIONS = ["SIZEOF", "ALIGNOF", "ADDR", "LOADADDR", "DEFINED"]
+SEGMENTS = ["text-segment", "data-segment", "bss-segment"]
 
 
 @dataclass
@@ -113,6 +111,8 @@ class Vocabulary:
     # The names that DEFINED asks for.
     defined: list
     sections: list
+    # The names of memory regions that ORIGIN and LENGTH ask for.
+    regions: list
     divisors: list
     # How often a divisor is one of these and an alignment a small number, at least.
     care: float
@@ -126,6 +126,10 @@ def random_leaf(rng, words):
         return Here()
     if kind < 0.75:
         return Symbol(rng.choice(words.symbols))
+    if kind < 0.79:
+        return Headers()
+    if kind < 0.83 and words.regions:
+        return Of(rng.choice(["ORIGIN", "LENGTH"]), rng.choice(words.regions))
     word = rng.choice(QUESTIONS)
     return Of(word, rng.choice(words.defined if word == "DEFINED" else words.sections))
 
@@ -146,9 +150,11 @@ def random_expression(rng, depth, words):
         return Choice(part(), part(), part())
     if kind < 0.9:
         return Call(rng.choice(["MIN", "MAX"]), part(), part())
-    if kind < 0.97:
+    if kind < 0.95:
         alignment = Number(rng.randint(1, 64)) if rng.random() >= 1 - words.care else part()
         return Align(alignment, rng.choice([None, part()]))
+    if kind < 0.97:
+        return Segment(rng.choice([*SEGMENTS, "other"]), part())
     condition = Binary("|", part(), Number(1)) if rng.random() >= 1.5 * (1 - words.care) else part()
     return Assert(condition, rng.choice(["m", "a b"]))
 
@@ -317,7 +323,7 @@ def over(number, *parts):
 @dataclass
 class Point:
     """Where an expression is read."""
-    # What is known as `.` there; None stands for 0.
+    # What is known as `.` there, as Values has it; None stands for 0.
     dot: object
     # The number of the section in whose contents it stands.
     section: object = None
@@ -345,6 +351,11 @@ class Scope:
     alignments: list
     # The definition that counts, by the name of its symbol.
     definitions: dict = field(default_factory=dict)
+    # The origin and length of each memory region, by its name.
+    regions: dict = field(default_factory=dict)
+    # The starts that are asked for, by the names of segments.
+    starts: dict = field(default_factory=dict)
+    header_size: int = 0
 
     def section(self, name):
         return self.names.index(name) if name in self.names else None
@@ -379,8 +390,11 @@ class Values:
     def full_value(self, expression, point, path=frozenset()):
         return self.full(self.value(expression, point, path), point)
 
+    def dot(self, word, number):
+        return self.of_section(word, number) if word == "end" else self.asked(word, number, ".")
+
     def here(self, point):
-        dot = 0 if point.dot is None else self.asked(*point.dot, ".")
+        dot = 0 if point.dot is None else self.dot(*point.dot)
         if point.section is None:
             return Value(dot, absolute=True)
         return Value(dot - self.of_section("start", point.section), relative=True)
@@ -406,6 +420,8 @@ class Values:
     def of(self, word, name):
         if word == "DEFINED":
             return Value(int(name in self.scope.definitions))
+        if word in ("ORIGIN", "LENGTH"):
+            return self.of_region(word, name)
         section = self.scope.section(name)
         if section is None:
             if word in ("SIZEOF", "ALIGNOF"):
@@ -417,6 +433,18 @@ class Values:
             end = self.of_section("end", section)
             return Value(end - self.of_section("start", section))
         return Value(self.of_section("start" if word == "ADDR" else "load", section), absolute=True)
+
+    def of_region(self, word, name):
+        if name not in self.scope.regions:
+            raise Fault(f"fault 18 UnknownRegion name={name_text(name)}")
+        origin, length = self.scope.regions[name]
+        return Value(origin, absolute=True) if word == "ORIGIN" else Value(length)
+
+    def segment(self, name, default, of):
+        if name in self.scope.starts:
+            return Value(self.scope.starts[name], absolute=True)
+        value = of(default)
+        return Value(value.number, value.relative, True)
 
     def binary(self, operator, left, right, point, of):
         if operator in ("&&", "||"):
@@ -460,6 +488,8 @@ class Values:
                 return Value(value)
             case Here():
                 return self.here(point)
+            case Headers():
+                return Value(self.scope.header_size)
             case Symbol(name):
                 return self.symbol(name, point, path)
             case Of(word, name):
@@ -478,5 +508,7 @@ class Values:
                 return over(side.number, test, side)
             case Align(alignment, start):
                 return self.align(alignment, start, point, of)
+            case Segment(name, default):
+                return self.segment(name, default, of)
             case Assert():
                 return self.tested(expression, of)

@@ -1,7 +1,24 @@
 """Scripts and tables with what is known of their plans: a fault, or lines of the text."""
 from comparing import Case, answer_of
+from options import Options
 from placing import Row, TableSymbol, plan
 from trees import tree_of
+
+FIRMWARE = """MEMORY { FLASH : ORIGIN = 0x08000000, LENGTH = 512K
+         RAM : ORIGIN = 0x20000000, LENGTH = 128K }
+ENTRY(Reset)
+SECTIONS {
+  .vectors : { KEEP(*(.vectors)) } > FLASH
+  .text : { *(.text .text.*) . = ALIGN(4); _etext = .; } > FLASH
+  .data : AT(_etext) { _sdata = .; *(.data .data.*) _edata = .; } > RAM
+  .bss (NOLOAD) : { *(.bss .bss.* COMMON) } > RAM
+}"""
+
+
+def empty_sections(count):
+    """So many sections, each with an address of its own and so in a segment of its own."""
+    return f"SECTIONS {{ {' '.join(f'.{number} {number} : {{ }}' for number in range(count))} }}"
+
 
 # A script, its rows, its symbols with their rows and offsets, and the fault or the lines.
 KNOWN = [
@@ -77,18 +94,58 @@ KNOWN = [
       "symbol y 0x0000000000000108 .a default"]),
     ("SECTIONS { .a : AT(LOADADDR(.a)) { } }", [], [], "27 NotLaidOut statement=0 name=.a"),
     ("SECTIONS { .a (DSECT) : { *(.a) } } ORIGIN = 1; x = 1 ? 1 : ORIGIN(r);", [".a 1 1 A"], [],
-     "38 Unsupported index=4"),
+     ["symbol x 0x0000000000000001 - default"]),
     ("SECTIONS { .a : ALIGN(ORIGIN(r)) { } }", [], [], "13 NotConstant statement=0"),
     ("SECTIONS { .a : ALIGN(1 ? 2 : ORIGIN(r)) { *(**) } =1 << 32 }", [], [],
      "11 BadFill statement=0 value=4294967296"),
-    ("SECTIONS { .a SIZEOF_HEADERS : ALIGN(8) { *(**) } }", [], [], "38 Unsupported index=0"),
+    ("SECTIONS { .a SIZEOF_HEADERS : ALIGN(8) { *(**) } }", [], [], "8 BadPattern statement=1 name=**"),
     ("SECTIONS { /DISCARD/ : { *(**) } =0 }", [], [], "7 BadDiscard statement=0"),
+    ("SECTIONS { . = 0x1000; .a : { *(.a) } x = .; }", [".a 4 4 A"], [],
+     ["section .a 0x0000000000001000 0x0000000000001000 0x0000000000000004 4 A - - -",
+      "input 0 0x0000000000001000 .a f.o .a", "location 0 0x0000000000001000", "segment 0x00000001 4 - .a",
+      "symbol x 0x0000000000001004 - default"]),
+    (FIRMWARE, [".vectors 0x40 4 A", ".text 0x101 4 AX", ".text.f 6 2 AX", ".data 8 4 AW", ".bss 0x20 8 AWB"], [],
+     ["section .vectors 0x0000000008000000 0x0000000008000000 0x0000000000000040 4 A - FLASH -",
+      "section .text 0x0000000008000040 0x0000000008000040 0x000000000000010c 4 AX - FLASH -",
+      "section .data 0x0000000020000000 0x000000000800014c 0x0000000000000008 4 AW - RAM -",
+      "section .bss 0x0000000020000008 0x0000000020000008 0x0000000000000020 8 AWB - RAM -",
+      "input 2 0x0000000008000144 .text f.o .text.f", "segment 0x00000001 4 - .vectors",
+      "segment 0x00000001 5 - .text", "segment 0x00000001 6 - .data,.bss",
+      "symbol _etext 0x000000000800014c .text default", "symbol _edata 0x0000000020000008 .data default"]),
+    (f"x = {256 * '('}1{256 * ')'};", [], [], ["symbol x 0x0000000000000001 - default"]),
+    (empty_sections(255), [], [], ["segment 0x00000001 4 - .0", "segment 0x00000001 4 - .254"]),
+    (empty_sections(256), [], [], "21 TooManySegments segments=256"),
+    ("MEMORY { R : ORIGIN = 0, LENGTH = 16 } SECTIONS { .a : { . = 17; } > R }", [], [],
+     "33 RegionFull region=R section=.a"),
+    ("MEMORY { R : ORIGIN = 0, LENGTH = 16 } SECTIONS { .a : { . = 16; } > R .b : { } > R }", [], [],
+     ["section .b 0x0000000000000010 0x0000000000000010 0x0000000000000000 1 A - R -", "segment 0x00000001 4 - .a,.b"]),
+    ("MEMORY { R : ORIGIN = 4, LENGTH = 16 } SECTIONS { .a 0 : { } > R }", [], [], "33 RegionFull region=R section=.a"),
+    ("SECTIONS { .a : { } > R }", [], [], "18 UnknownRegion name=R"),
+    ("MEMORY { R : ORIGIN = 0, LENGTH = 1 } MEMORY { } SECTIONS { .a : { } > R }", [], [], "18 UnknownRegion name=R"),
+    ("MEMORY { R : o = 0, l = 1 R : o = 1, l = 1 }", [], [], "16 DuplicateName name=R"),
+    ("MEMORY { R : o = x, l = 1 / 0 }", [], [], "13 NotConstant statement=0"),
+    ("MEMORY { R : o = 0xFFFFFFFFFFFFFFFF, l = 1 R : o = 0, l = 1 }", [], [],
+     "34 Overflow left=18446744073709551615 right=1"),
+    ("MEMORY { R : o = 1 / 0, l = 1 } MEMORY { R : o = 0, l = 1 } x = LENGTH(R);", [], [],
+     ["symbol x 0x0000000000000001 - default"]),
+    ("OUTPUT_FORMAT(elf32-littlearm)", [], [], "17 OutputFormat name=elf32-littlearm"),
+    ("SECTIONS { .a : { } :h }", [], [], "19 UnknownPhdr name=h"),
+    ("PHDRS { a 1; b 1 << 32 FLAGS(x); }", [], [], "12 BadHeader index=1 value=4294967296"),
+    ("PHDRS { a 1; a 1; } SECTIONS { .a : { } > R }", [], [], "16 DuplicateName name=a"),
+    ("PHDRS { headers PT_PHDR PHDRS; text PT_LOAD FILEHDR PHDRS FLAGS(5); data 1; none 4; } SECTIONS { "
+     ".a : { *(.a) } :text .b : { *(.b) } /DISCARD/ : { } .c : { *(.c) } :data :none .d : { *(.d) } :NONE }",
+     [".a 4 4 AX", ".b 4 4 A", ".c 4 4 AW", ".d 4 4 A", ".e 4 4 AW"], [],
+     ["segment 0x00000006 4 headers -", "segment 0x00000001 5 text .a,.b", "segment 0x00000001 6 data .c",
+      "segment 0x00000004 6 none .c", "section .b 0x0000000000000004 0x0000000000000004 0x0000000000000004 4 A - - text",
+      "section .c 0x0000000000000008 0x0000000000000008 0x0000000000000004 4 AW - - data,none",
+      "section .d 0x000000000000000c 0x000000000000000c 0x0000000000000004 4 A - - NONE",
+      "section .e 0x0000000000000010 0x0000000000000010 0x0000000000000004 4 AW - - -"]),
 ]
 
 
 def row_of(text):
     name, size, alignment, flags = text.split()
-    return Row("f.o", name, int(size), int(alignment), flags)
+    return Row("f.o", name, int(size, 0), int(alignment), flags)
 
 
 def symbol_of(text):
@@ -101,7 +158,7 @@ def known_cases():
     for script, rows, symbols, _ in KNOWN:
         table = "".join(f"section,f.o,{row.replace(' ', ',')}\n" for row in rows)
         table += "".join(f"symbol,{symbol.replace(' ', ',')},,\n" for symbol in symbols)
-        inputs = tree_of(script), [row_of(row) for row in rows], [symbol_of(symbol) for symbol in symbols]
+        inputs = tree_of(script), [row_of(row) for row in rows], [symbol_of(symbol) for symbol in symbols], Options()
         yield Case(script, table, answer_of(plan, *inputs))
 
 

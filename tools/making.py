@@ -1,8 +1,9 @@
 """Random scripts, as trees, and tables. Most of them have a plan."""
-from expressions import Align, Assert, Binary, Call, Choice, Headers, Here, Number, Of, Segment, Symbol, Unary
-from expressions import Vocabulary, random_expression
-from placing import FLOATING, Assignment, Command, Constructors, Location, Matcher, Pattern, Provide, Row, Section
-from placing import Sections, TableSymbol
+from expressions import SEGMENTS, Align, Assert, Binary, Call, Choice, Headers, Here, Number, Of, Segment, Symbol
+from expressions import Unary, Vocabulary, random_expression
+from options import FORMATS, random_options
+from placing import FLOATING, Assignment, Command, Constructors, Format, Header, Location, Matcher, Memory, Pattern
+from placing import ProgramHeaders, Provide, Region, Row, Section, Sections, TableSymbol
 
 
 LARGEST = (1 << 64) - 1
@@ -56,7 +57,10 @@ SYMBOLS = ["x", "y", "z", "_e", "p.0", "q"]
 CHANGES = ["+", "-", "*", "/", "<<", ">>", "&", "|", "^"]
 IDLE = ["ENTRY(x)", "OUTPUT_ARCH(i386:x86-64)", "GROUP(f.o x = 1)", "a.o", "INPUT( -lc )",
         "VERSION { V { global: f; }; }"]
-UNBUILT = ["MEMORY { R : o = 0, l = 1 }", "OUTPUT_FORMAT(elf64-x86-64)", "PHDRS { }"]
+REGION_NAMES = ["R", "S", "RAM", "r-x", "é", ""]
+HEADER_NAMES = ["text", "data", "NONE", "none", "-", "a,b", ""]
+# Formats that are no format of any machine, too.
+FORMAT_NAMES = [*FORMATS.values(), "elf64-bigaarch64", "elf32-littlearm", "binary", ""]
 
 
 def small_number(rng):
@@ -66,12 +70,13 @@ def small_number(rng):
 class Maker:
     """Makes one script. It keeps in mind what a placement may ask for where it stands."""
 
-    def __init__(self, rng, symbols):
-        self.rng = rng
+    def __init__(self, rng, symbols, options):
+        self.rng, self.options = rng, options
         # Addresses that are chosen mostly rise; in some scripts they mostly fall.
         self.falls = self.chance(0.15)
         # What is above nearly all that was placed so far, or below.
         self.high = 0x20000 if self.falls else 0
+        self.high_in_region = 0x10000
         self.opened, self.closed, self.defined = [], [], []
         # Symbols that ask for nothing but `.`, and those that are defined in the contents of the section at hand.
         self.simple, self.inside, self.is_inside = [], [], False
@@ -81,6 +86,8 @@ class Maker:
         self.constants = rng.sample(CONSTANTS, rng.randint(1, len(CONSTANTS)))
         self.waiting = self.constants + [name for name in self.symbols if name in SYMBOLS]
         rng.shuffle(self.waiting)
+        self.regions = rng.sample(REGION_NAMES, rng.choice([1, 1, 2, 3])) if self.chance(0.4) else []
+        self.headers = rng.sample(HEADER_NAMES, rng.choice([0, 1, 2, 3])) if self.chance(0.35) else []
 
     def chance(self, part):
         return self.rng.random() < part
@@ -90,7 +97,7 @@ class Maker:
     def any_expression(self, depth):
         names = self.symbols + self.constants
         words = Vocabulary(small_number, names or ["none"], names + ["none", ".a"], self.names + self.names + [".none"],
-                           [1, 2, 3, 4, 16], 0.98)
+                           self.asked_regions(), [1, 2, 3, 4, 16], 0.98)
         return random_expression(self.rng, depth, words)
 
     def odd_expression(self):
@@ -106,7 +113,7 @@ class Maker:
                    Symbol(self.rng.choice(["none", *self.waiting])), Assert(Number(0), "odd"),
                    Of("ADDR", self.rng.choice(later)),
                    Of("SIZEOF", self.rng.choice(later)), Of("LOADADDR", self.rng.choice(later)),
-                   Align(Number(8), Number(LARGEST))]
+                   Align(Number(8), Number(LARGEST)), Of(self.rng.choice(["ORIGIN", "LENGTH"]), "none")]
         if self.symbols:
             choices.append(Symbol(self.rng.choice(self.symbols)))
         return self.rng.choice(choices)
@@ -122,11 +129,22 @@ class Maker:
             Choice(Number(1), Choice(Number(0), odd, expression), odd),
         ])
 
-    def unbuilt(self):
-        segment = Segment("text-segment", Number(1))
-        odd = self.rng.choice([Headers(), segment, Of("ORIGIN", "R"), Of("LENGTH", "R")])
-        return self.rng.choice([odd, Choice(Number(1), Number(4), odd), Unary("-", odd), Call("MAX", Number(1), odd),
-                                Align(Number(4), odd), Assert(Binary("||", Number(1), odd), "m")])
+    def asked_regions(self):
+        """Those whose names may stand in an expression."""
+        return [name for name in self.regions if name.isidentifier() and name.isascii()]
+
+    def segment_start(self, default):
+        return Segment(self.rng.choice([*SEGMENTS, "other"]), default)
+
+    def asking(self, default):
+        """What asks for memory regions, segments or headers."""
+        asked = [Headers(), self.segment_start(default), self.segment_start(default)]
+        for name in self.asked_regions():
+            asked += [Of("ORIGIN", name), Of("LENGTH", name)]
+        one = self.rng.choice(asked)
+        return self.rng.choice([one, one, Choice(Number(1), one, self.odd_expression()), Unary("~", one),
+                                Call("MAX", Number(1), one), Align(Number(4), one), Binary("-", one, Number(1)),
+                                Choice(Number(0), one, default), Assert(Binary("||", Number(1), one), "m")])
 
     def rising(self):
         """A number that is mostly above all addresses so far, or below all."""
@@ -140,7 +158,8 @@ class Maker:
     def known_expression(self):
         """What is known wherever a statement of SECTIONS stands, mostly small."""
         choices = [Of("ALIGNOF", self.rng.choice(self.names)), Of("DEFINED", self.rng.choice(["none", *self.symbols])),
-                   Number(small_number(self.rng)), Symbol(self.rng.choice(self.constants))]
+                   Number(small_number(self.rng)), Symbol(self.rng.choice(self.constants)),
+                   Headers() if self.chance(0.5) else Segment("other", Number(small_number(self.rng)))]
         if self.closed:
             choices.append(Of("SIZEOF", self.rng.choice(self.closed)))
         return self.rng.choice(choices)
@@ -150,7 +169,8 @@ class Maker:
         rng, number = self.rng, Number(self.rising())
         choices = [number, number, Binary("+", number, self.known_expression()), Call("MAX", Here(), number),
                    Align(Number(rng.choice([1, 6, 16, 256])), None), Binary("+", Here(), Number(small_number(rng))),
-                   Align(Number(rng.choice([8, 24])), number), Here(), Binary("|", Here(), Number(0x1f))]
+                   Align(Number(rng.choice([8, 24])), number), Here(), Binary("|", Here(), Number(0x1f)),
+                   self.segment_start(number) if self.chance(0.5) else Binary("+", Headers(), number)]
         if self.opened:
             known = Of(rng.choice(["ADDR", "ADDR", "LOADADDR"]), rng.choice(self.opened))
             choices.append(Call("MAX", number, Binary("+", known, Number(0x100))))
@@ -165,9 +185,7 @@ class Maker:
             return make()
         if kind < 0.97:
             return self.unread(make())
-        if kind < 0.98:
-            return self.odd_expression()
-        return self.any_expression(2) if kind < 0.998 else self.unbuilt()
+        return self.odd_expression() if kind < 0.98 else self.any_expression(2)
 
     def marked_expression(self, depth):
         """For a symbol in the contents of a section: of numbers, of addresses of that section and of others."""
@@ -176,6 +194,7 @@ class Maker:
             name = rng.choice(self.names)
             return rng.choice([Here(), Here(), Number(small_number(rng)), Of("ADDR", name), Of("LOADADDR", name),
                                Of("SIZEOF", name), Of("ADDR", self.opened[-1]), Symbol(rng.choice(self.constants)),
+                               self.asking(rng.choice([Here(), Number(small_number(rng))])),
                                Symbol(rng.choice(self.inside + self.simple + self.constants))])
         one, other, third = (self.marked_expression(depth - 1) for _ in range(3))
         low = Binary("|", Binary("&", other, Number(15)), Number(1))
@@ -198,6 +217,7 @@ class Maker:
             Binary("+", Here(), Number(small_number(rng))), Align(Number(rng.choice([1, 4, 6, 16])), None), offset,
             Here(), Call("MAX", Here(), offset), Binary("+", Of("ADDR", here), offset), Align(Number(8), Here()),
             Binary("+", Here(), self.known_expression()), Choice(Of("ADDR", here), Here(), offset),
+            Segment("other", Here()), Call("MAX", Here(), Headers()),
             Choice(Binary("<", Here(), Number(self.high)), Here(), offset), Binary("+", Here(), Of("ALIGNOF", here)),
             Number(0x3000) if self.chance(0.2) else Here(),
         ])
@@ -227,11 +247,11 @@ class Maker:
             return rng.choice([other, Binary("+", other, Number(4)), Binary("-", other, Here()),
                                Binary("<", other, Here()), Choice(other, other, Here()),
                                Binary("-", Call("MAX", other, Here()), other)])
-        if kind < 0.93:
+        if kind < 0.9:
             return self.unread(Here())
-        if kind < 0.99:
-            return self.any_expression(rng.choice([1, 2, 2, 3]))
-        return self.odd_expression() if kind < 0.997 else self.unbuilt()
+        if kind < 0.95:
+            return self.asking(rng.choice([Here(), Binary("+", Here(), Number(16)), Number(0x40)]))
+        return self.any_expression(rng.choice([1, 2, 2, 3])) if kind < 0.99 else self.odd_expression()
 
     def condition(self):
         rng = self.rng
@@ -320,24 +340,48 @@ class Maker:
             return self.rng.choice([Here(), Of("ADDR", self.opened[-1]), sum_here, Align(Number(64), None)])
         return self.address()
 
-    def clause(self, usual, odd):
+    def clause(self, usual, odd, care=0.97):
         """An expression that is a constant mostly."""
         kind = self.rng.random()
-        if kind < 0.97:
+        if kind < care:
             return self.rng.choice([usual, usual, Binary("*", usual, Number(1)), Binary("<<", usual, Number(0)),
                                     Choice(Number(1), usual, self.odd_expression()),
                                     Binary("+", usual, Binary("&&", Number(0), self.odd_expression())),
                                     Binary("|", usual, Call("MIN", Number(0), Number(3)))])
+        asking = self.asking(usual)
         wrong = [odd, Here(), Symbol("base"), Binary("/", Number(4), Number(0)), Binary("%", usual, Number(0)),
-                 self.unbuilt(), Choice(Number(1), usual, self.unbuilt())]
+                 asking, Choice(Number(1), usual, asking)]
         return self.rng.choice(wrong)
 
+    def region_start(self, region):
+        """Mostly an address in the region."""
+        if region not in self.asked_regions() or self.chance(0.05):
+            return self.address()
+        self.high_in_region += self.rng.choice([0x140, 0x200, 0x1000])
+        return Binary("+", Of("ORIGIN", region), Number(self.high_in_region))
+
+    def start(self, region):
+        if region is None:
+            return self.placement(self.address) if self.chance(0.25) else None
+        return self.placement(lambda: self.region_start(region)) if self.chance(0.1) else None
+
+    def named_region(self):
+        if self.chance(0.004):
+            return "none"
+        return self.rng.choice(self.regions) if self.regions and self.chance(0.75) else None
+
+    def named_headers(self):
+        if self.chance(0.003):
+            return ["unknown"]
+        if not self.headers or self.chance(0.5):
+            return ["NONE"] if self.chance(0.04) else []
+        return [self.rng.choice([*self.headers, "NONE"]) for _ in range(self.rng.choice([1, 1, 1, 2, 3]))]
+
     def section(self, name):
-        rng, found = self.rng, Section(name, [])
+        rng, found = self.rng, Section(name, [], region=self.named_region(), headers=self.named_headers())
         if self.chance(0.25):
             found.attribute = rng.choice(["NOLOAD", "READONLY", *FLOATING])
-        if self.chance(0.25):
-            found.start = self.placement(self.address)
+        found.start = self.start(found.region)
         self.opened.append(name or self.names[0])
         if self.chance(0.25):
             found.load = self.placement(self.load)
@@ -359,7 +403,11 @@ class Maker:
         if self.chance(0.01):
             found.start = Number(0)
         if self.chance(0.01):
-            refused = [Constructors(), Location("", self.unbuilt()), Assignment("x", "", Here())]
+            found.region = "R"
+        if self.chance(0.01):
+            found.headers = ["text"]
+        if self.chance(0.01):
+            refused = [Constructors(), Location("", Here()), Assignment("x", "", Here())]
             contents.append(self.rng.choice(refused))
         return found
 
@@ -381,7 +429,78 @@ class Maker:
             return self.task()
         if kind < 0.8:
             return Location(self.rng.choice(["", "+"]), self.symbol_expression())
-        return Command(self.rng.choice(IDLE)) if kind < 0.985 else Command(self.rng.choice(UNBUILT), False)
+        return Command(self.rng.choice(IDLE)) if kind < 0.93 else self.format()
+
+    def format(self):
+        """Mostly that of the machine."""
+        right, any_name = FORMATS[self.options.machine], self.rng.choice(FORMAT_NAMES)
+        names = [self.rng.choice(FORMAT_NAMES) for _ in range(3)]
+        names[{"big": 1, "little": 2}.get(self.options.endian, 0)] = any_name if self.chance(0.2) else right
+        return Format(names if self.chance(0.6) else [any_name if self.chance(0.2) else right])
+
+    # ---- memory regions and program headers
+
+    def region(self, name, index):
+        rng = self.rng
+        origin = Number(0x100000 * (index + 1)) if self.chance(0.95) else Number(rng.choice([0, 4, LARGEST, 0x100010]))
+        length = Number(0x80000) if self.chance(0.85) else Number(rng.choice([0, 1, 16, 0x100, LARGEST >> 1, LARGEST]))
+        return Region(name, self.clause(origin, Symbol("base"), 0.995), self.clause(length, Here(), 0.995))
+
+    def memory(self):
+        names = list(self.regions)
+        if names and self.chance(0.03):
+            names.append(self.rng.choice(names))
+        if len(names) > 1 and self.chance(0.03):
+            names.pop()
+        return Memory([self.region(name, index) for index, name in enumerate(names)])
+
+    def header_number(self, numbers):
+        if self.chance(0.01):
+            return Number(self.rng.choice([1 << 32, LARGEST]))
+        return self.clause(Number(self.rng.choice(numbers)), Here(), 0.99)
+
+    def header(self, name):
+        header_type = self.header_number([1, 1, 1, 7, 4, 0, 6, 0x6474e551, 0x60000000, (1 << 32) - 1])
+        return Header(name, header_type, self.header_number([0, 4, 5, 6, 7, 0xff]) if self.chance(0.4) else None)
+
+    def program_headers(self):
+        names = list(self.headers)
+        if names and self.chance(0.03):
+            names.append(self.rng.choice(names))
+        if self.chance(0.02):
+            count = self.rng.choice([256, 256, 257, 300]) - len(names)
+            return ProgramHeaders([self.header(name) for name in names] + [Header(f"h{i}", Number(1))
+                                                                           for i in range(count)])
+        return ProgramHeaders([self.header(name) for name in names])
+
+    def earlier(self, command):
+        """One that is not looked at."""
+        odd = self.odd_expression()
+        name = self.rng.choice(["R", "text"])
+        if isinstance(command, Memory):
+            return Memory([Region(name, odd, Number(0))] * self.rng.randint(0, 2))
+        return ProgramHeaders([Header(name, Number(1), odd)] * self.rng.randint(0, 2))
+
+    def listing(self):
+        """The commands of memory regions and program headers, those that count behind others of their kind."""
+        found = []
+        for names, make in ((self.regions, self.memory), (self.headers, self.program_headers)):
+            if names or self.chance(0.05):
+                counting = make()
+                found.append(([self.earlier(counting)] if self.chance(0.25) else []) + [counting])
+        return found
+
+    def list_among(self, commands):
+        for listed in self.listing():
+            at = sorted(self.rng.randint(0, len(commands)) for _ in listed)
+            for shift, (index, command) in enumerate(zip(at, listed)):
+                commands.insert(index + shift, command)
+
+    def many_sections(self):
+        """About as many segments as there may be."""
+        first = 1 << 40
+        return Sections([Section(f".{i}", [], start=Number(first + i))
+                         for i in range(self.rng.choice([240, 250, 253, 254, 255, 256, 260]))])
 
     def sections(self, names):
         statements = []
@@ -402,6 +521,9 @@ class Maker:
             commands.append(self.define(self.waiting.pop()))
         if self.chance(0.5):
             commands.append(Assert(self.condition(), "the end"))
+        if self.chance(0.01):
+            commands.append(self.many_sections())
+        self.list_among(commands)
         return commands
 
 
@@ -410,4 +532,5 @@ def random_case(rng):
     names = rng.sample(TABLE_SYMBOLS, rng.randint(0, len(TABLE_SYMBOLS))) if rows else []
     names += rng.sample(SYMBOLS + names, 1) if names and rng.random() < 0.03 else []
     symbols = [random_symbol(rng, name, rows) for name in names]
-    return Maker(rng, names).script(), rows, symbols
+    options = random_options(rng)
+    return Maker(rng, names, options).script(), rows, symbols, options

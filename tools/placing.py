@@ -1,9 +1,12 @@
 """The plan of a script's tree over a table, by the rules of docs/PLACEMENT.md, GLOBS.md, RULES.md, FAULTS.md and
-TEXTS.md as they are written below."""
+TEXTS.md as they are written below and in segmenting.py."""
 from dataclasses import dataclass, field
 
 from comparing import Fault, address_text, name_text
-from expressions import WORD, Assert, Binary, Here, OfRow, OfScript, Point, Scope, Symbol, Values, constant, is_built
+from expressions import WORD, Assert, Binary, Here, OfRow, OfScript, Point, Scope, Symbol, Values, asks_for_start
+from expressions import constant
+from options import FORMATS
+from segmenting import segment_lines, segments_of
 
 ALIGNMENTS = [1 << exponent for exponent in range(22)]
 FLOATING = ["DSECT", "COPY", "INFO", "OVERLAY"]
@@ -51,8 +54,9 @@ class Section:
     load: object = None
     alignment: object = None
     fill: object = None
-    # It names a memory region or program headers.
-    is_assigned: bool = False
+    # The name of its memory region, or None, and the names of its own program headers.
+    region: object = None
+    headers: list = field(default_factory=list)
 
 
 @dataclass
@@ -96,10 +100,41 @@ class Sections:
 
 
 @dataclass
+class Region:
+    name: str
+    origin: object
+    length: object
+
+
+@dataclass
+class Memory:
+    regions: list
+
+
+@dataclass
+class Header:
+    """A program header. FILEHDR and PHDRS in it say nothing here."""
+    name: str
+    type: object
+    # None without FLAGS.
+    flags: object = None
+
+
+@dataclass
+class ProgramHeaders:
+    headers: list
+
+
+@dataclass
+class Format:
+    # One name, or those by default, for big and for little.
+    names: list
+
+
+@dataclass
 class Command:
     """A command of which nothing is read here."""
     text: str
-    is_built: bool = True
 
 
 # ---- places
@@ -111,7 +146,10 @@ class Place:
     # The section that begins or ends here, or in whose contents the statement stands.
     section: object = None
     chunk: object = None
-    outermost: bool = False
+    # The program headers of the section that begins here.
+    headers: object = None
+    # How many sections stand before it, where it stands outside of SECTIONS.
+    before: object = None
 
 
 def contents_places(section, number):
@@ -129,38 +167,57 @@ def contents_places(section, number):
                 yield Place("idle")
 
 
-def section_places(section, number):
-    """A section of that number, or /DISCARD/ where there is none."""
+def section_places(section, number, headers):
+    """A section of that number and with those headers, or /DISCARD/ where there is no number."""
     if number is None:
         return [Place("discard", section), *contents_places(section, None), Place("idle")]
     collects = any(isinstance(statement, Matcher) for statement in section.contents)
     close = Place("close", section, number, None if collects else (number, 0))
-    return [Place("open", section, number), *contents_places(section, number), close]
+    return [Place("open", section, number, headers=headers), *contents_places(section, number), close]
 
 
 def orphan_places(number):
-    return [Place("open", None, number), Place("rows", None, number, (number, 0)), Place("close", None, number)]
+    opens = Place("open", None, number, headers=[])
+    return [opens, Place("rows", None, number, (number, 0)), Place("close", None, number)]
 
 
-def outermost_place(command):
-    if isinstance(command, Command):
-        return Place("idle" if command.is_built else "unbuilt")
-    return Place("task", command, outermost=True)
+def outermost_place(command, before):
+    match command:
+        case Memory():
+            return Place("memory", command.regions)
+        case ProgramHeaders():
+            return Place("headers", command.headers)
+        case Format():
+            return Place("format", command)
+        case Command():
+            return Place("idle")
+    return Place("task", command, before=before)
+
+
+def sections_places(command, before):
+    """The places of SECTIONS. A section without headers has those of the section before it."""
+    places, number, headers = [], before, []
+    for statement in command.statements:
+        if not isinstance(statement, Section):
+            places.append(Place("location" if isinstance(statement, Location) else "task", statement))
+        elif statement.name == "/DISCARD/":
+            places += section_places(statement, None, [])
+        else:
+            headers = statement.headers or headers
+            places += section_places(statement, number, headers)
+            number += 1
+    return places
 
 
 def places_of(script):
-    places, number = [], 0
+    places, before = [], 0
     for command in script:
-        if not isinstance(command, Sections):
-            places.append(outermost_place(command))
-            continue
-        for statement in command.statements:
-            if isinstance(statement, Section):
-                discards = statement.name == "/DISCARD/"
-                places += section_places(statement, None if discards else number)
-                number += not discards
-            else:
-                places.append(Place("location" if isinstance(statement, Location) else "task", statement))
+        if isinstance(command, Sections):
+            found = sections_places(command, before)
+            before += sum(place.word == "open" for place in found)
+            places += found
+        else:
+            places.append(outermost_place(command, before))
     return places
 
 
@@ -266,15 +323,10 @@ def check_patterns(place, matcher):
 
 
 def check_discard(place, section):
-    clauses = [section.attribute, section.start, section.load, section.alignment, section.fill]
-    is_plain = clauses == [None] * 5 and not section.is_assigned
+    clauses = [section.attribute, section.start, section.load, section.alignment, section.fill, section.region]
+    is_plain = clauses == [None] * 6 and not section.headers
     if not is_plain or not all(isinstance(statement, Matcher) for statement in section.contents):
         raise Fault(f"fault 7 BadDiscard statement={place}")
-
-
-def refuse_unbuilt(place, expressions):
-    if not all(is_built(expression) for expression in expressions if expression is not None):
-        raise Fault(f"fault 38 Unsupported index={place}")
 
 
 def check_section(place, section):
@@ -284,16 +336,15 @@ def check_section(place, section):
         raise Fault(f"fault 10 BadAlignment statement={place} value={number}")
     if section.fill is not None and (number := constant(section.fill, place)) >= 1 << 32:
         raise Fault(f"fault 11 BadFill statement={place} value={number}")
-    refuse_unbuilt(place, [section.start, section.load, section.alignment, section.fill])
-    if section.is_assigned:
-        raise Fault(f"fault 38 Unsupported index={place}")
 
 
-def expression_of(statement):
-    return statement if isinstance(statement, Assert) else statement.value()
+def check_format(names, options):
+    chosen = {"big": names[1], "little": names[2]}.get(options.endian, names[0]) if len(names) == 3 else names[0]
+    if chosen != FORMATS[options.machine]:
+        raise Fault(f"fault 17 OutputFormat name={name_text(chosen)}")
 
 
-def check_place(number, place):
+def check_place(number, place, options):
     match place.word:
         case "open":
             check_section(number, place.statement)
@@ -301,10 +352,54 @@ def check_place(number, place):
             check_discard(number, place.statement)
         case "collect":
             check_patterns(number, place.statement)
-        case "location" | "task":
-            refuse_unbuilt(number, [expression_of(place.statement)])
-        case "unbuilt":
-            raise Fault(f"fault 38 Unsupported index={number}")
+        case "format":
+            check_format(place.statement.names, options)
+
+
+def last_list(places, word):
+    """The place of the last command of this kind, and what it lists."""
+    found = [(number, place.statement) for number, place in enumerate(places) if place.word == word]
+    return found[-1] if found else (None, [])
+
+
+def numbered_regions(places):
+    """The name, origin and length of each region of the last MEMORY."""
+    number, regions = last_list(places, "memory")
+    found = []
+    for region in regions:
+        origin, length = constant(region.origin, number), constant(region.length, number)
+        if origin + length >= WORD:
+            raise Fault(f"fault 34 Overflow left={origin} right={length}")
+        found.append((region.name, origin, length))
+    return found
+
+
+def header_number(expression, number, index):
+    value = constant(expression, number)
+    if value >= 1 << 32:
+        raise Fault(f"fault 12 BadHeader index={index} value={value}")
+    return value
+
+
+def numbered_headers(places):
+    """The name, type and flags of each header of the last PHDRS, None for flags that are not given."""
+    number, headers = last_list(places, "headers")
+    found = []
+    for index, header in enumerate(headers):
+        header_type = header_number(header.type, number, index)
+        flags = None if header.flags is None else header_number(header.flags, number, index)
+        found.append((header.name, header_type, flags))
+    return found
+
+
+def check_references(sections, region_names, header_names):
+    """The section's own headers are looked at alone: it has those of an earlier one besides."""
+    for section in sections:
+        if section.region not in (None, *region_names):
+            raise Fault(f"fault 18 UnknownRegion name={name_text(section.region)}")
+        for name in section.headers:
+            if name not in ("NONE", *header_names):
+                raise Fault(f"fault 19 UnknownPhdr name={name_text(name)}")
 
 
 def refuse_repeated(names, fault):
@@ -335,6 +430,8 @@ class Facts:
     name: str
     # Of the script, or None.
     section: object
+    # Names of program headers.
+    headers: list = field(default_factory=list)
     rows: list = field(default_factory=list)
 
     def attribute(self):
@@ -394,6 +491,7 @@ class Layout:
     def __init__(self, sections, rows, fates, scope):
         self.sections, self.rows, self.fates, self.scope = sections, rows, fates, scope
         self.counter = self.cursor = 0
+        self.region_counters = {name: origin for name, (origin, _) in scope.regions.items()}
         self.known, self.locations = {}, []
 
     def step(self, number, place):
@@ -417,7 +515,8 @@ class Layout:
         if facts.clause("start") is not None:
             start = self.full_value(number, facts.clause("start"), Point(("dot", number)))
         else:
-            start = 0 if facts.floats() else up(self.counter, facts.alignment())
+            counter = self.region_counters.get(facts.clause("region"), self.counter)
+            start = 0 if facts.floats() else up(counter, facts.alignment())
         self.known["start", section] = self.known["opened", number] = self.cursor = start
         if facts.clause("load") is not None:
             start = self.full_value(number, facts.clause("load"), Point(("opened", number)))
@@ -455,9 +554,21 @@ class Layout:
             self.place_chunk(place.chunk)
         section = place.section
         if not self.sections[section].floats():
+            region = self.sections[section].clause("region")
+            self.refuse_full_region(section, region)
             self.refuse_overlap(section)
             self.counter = self.cursor
+            if region is not None:
+                self.region_counters[region] = self.cursor
         self.known["end", section] = self.cursor
+
+    def refuse_full_region(self, section, region):
+        if region is None:
+            return
+        origin, length = self.scope.regions[region]
+        if self.known["start", section] < origin or self.cursor > origin + length:
+            names = name_text(region), name_text(self.sections[section].name)
+            raise Fault(f"fault 33 RegionFull region={names[0]} section={names[1]}")
 
     def refuse_overlap(self, section):
         def shares(other):
@@ -474,7 +585,10 @@ class Layout:
 # ---- symbols: docs/PLACEMENT.md
 
 def point_of(number, place):
-    return Point(None if place.outermost else ("dot", number), place.section)
+    if place.before is None:
+        return Point(("dot", number), place.section)
+    asks = not isinstance(place.statement, Assert) and asks_for_start(place.statement.value())
+    return Point(("end", place.before - 1) if asks and place.before > 0 else None)
 
 
 def definitions_of(places, symbols, fates):
@@ -501,7 +615,7 @@ def script_symbols(places, layout, defining):
         if isinstance(statement, Provide) and (not name or defining.get(name) != number):
             continue
         values, path = Values(layout.scope, layout.known, number), {name} if name else frozenset()
-        value = values.full_value(expression_of(statement), point_of(number, place), path)
+        value = values.full_value(statement.value(), point_of(number, place), path)
         if name:
             yield name, value, place.section, isinstance(statement, Provide) and statement.hidden
 
@@ -519,7 +633,10 @@ def section_line(layout, number, facts):
     addresses = " ".join(address_text(address) for address in (start, load, end - start))
     fill = facts.clause("fill")
     fill_text = "-" if fill is None else f"{constant(fill, 0):08x}"
-    return f"section {name_text(facts.name)} {addresses} {facts.alignment()} {facts.flags() or '-'} {fill_text} - -"
+    region = facts.clause("region")
+    said = [facts.alignment(), facts.flags() or "-", fill_text, "-" if region is None else name_text(region),
+            ",".join(name_text(name) for name in facts.headers) or "-"]
+    return f"section {name_text(facts.name)} {addresses} {' '.join(str(part) for part in said)}"
 
 
 def row_line(layout, number, row):
@@ -536,10 +653,11 @@ def symbol_line(layout, name, address, section, hidden):
     return f"symbol {name_text(name)} {address_text(address)} {section_name} {'hidden' if hidden else 'default'}"
 
 
-def plan_text(layout, symbols, found):
+def plan_text(layout, segments, symbols, found):
     lines = [section_line(layout, number, facts) for number, facts in enumerate(layout.sections)]
     lines += [row_line(layout, number, row) for number, row in enumerate(layout.rows)]
     lines += [f"location {place} {address_text(address)}" for place, address in layout.locations]
+    lines += segment_lines(segments, layout.sections)
     for symbol in symbols:
         fate = layout.fates[symbol.row]
         if fate is not None:
@@ -558,27 +676,46 @@ def firm_names(places, symbols, fates):
     return [name for name in kept + [task.name for task in tasks if isinstance(task, Assignment)] if name]
 
 
-def plan(script, rows, symbols):
-    """The text of the plan."""
-    check_table(rows, symbols)
-    places = places_of(script)
+def check_script(places, options):
+    """The checks of each place, of regions and headers. The regions and headers."""
     for number, place in enumerate(places):
-        check_place(number, place)
-    sections = [Facts(place.statement.name, place.statement) for place in places if place.word == "open"]
-    refuse_repeated([facts.name for facts in sections], "14 DuplicateSection")
+        check_place(number, place, options)
+    regions, headers = numbered_regions(places), numbered_headers(places)
+    for listed in (regions, headers):
+        refuse_repeated([name for name, *_ in listed], "16 DuplicateName")
+    sections = [place.statement for place in places if place.word == "open"]
+    check_references(sections, [name for name, *_ in regions], [name for name, *_ in headers])
+    refuse_repeated([section.name for section in sections], "14 DuplicateSection")
+    return regions, headers
+
+
+def fates_of(places, rows):
+    """All sections with their rows, and where each row goes."""
+    sections = [Facts(place.statement.name, place.statement, place.headers) for place in places if place.word == "open"]
     rules = list(rules_of(places))
     fates = [fate_of(rules, sections, row) for row in rows]
     for row, fate in zip(rows, fates):
         if fate is not None:
             sections[fate.chunk[0]].rows.append(row)
+    return sections, fates
+
+
+def plan(script, rows, symbols, options):
+    """The text of the plan."""
+    check_table(rows, symbols)
+    places = places_of(script)
+    regions, headers = check_script(places, options)
+    sections, fates = fates_of(places, rows)
     refuse_repeated(firm_names(places, symbols, fates), "15 DuplicateSymbol")
+    segments = segments_of(sections, headers, options.kind == "partial")
     for number in range(sum(place.word == "open" for place in places), len(sections)):
         places += orphan_places(number)
     definitions, defining = definitions_of(places, symbols, fates)
-    scope = Scope([facts.name for facts in sections], [facts.alignment() for facts in sections], definitions)
+    scope = Scope([facts.name for facts in sections], [facts.alignment() for facts in sections], definitions,
+                  {name: (origin, length) for name, origin, length in regions}, options.starts, options.header_size)
     layout = Layout(sections, rows, fates, scope)
     for number, place in enumerate(places):
         layout.step(number, place)
     found = list(script_symbols(places, layout, defining))
     test_asserts(places, layout)
-    return plan_text(layout, symbols, found)
+    return plan_text(layout, segments, symbols, found)

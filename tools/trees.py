@@ -1,9 +1,9 @@
 """The tree of a script's text, as placing.py takes it."""
 from expressions import Align, Assert, Binary, Call, Choice, Headers, Here, Number, Of, Segment, Symbol, Unary
-from placing import Assignment, Command, Constructors, Location, Matcher, Pattern, Provide, Section, Sections
+from placing import Assignment, Command, Constructors, Format, Header, Location, Matcher, Memory, Pattern
+from placing import ProgramHeaders, Provide, Region, Section, Sections
 from reading import Script
 
-UNBUILT = ["memory", "phdrs", "format"]
 WORDS_OF_NAMES = ["SIZEOF", "ALIGNOF", "ADDR", "LOADADDR", "ORIGIN", "LENGTH", "DEFINED"]
 
 
@@ -69,7 +69,21 @@ class Trees:
                 return Constructors()
             case ("sections", *statements):
                 return Sections([self.statement(statement) for statement in statements])
-        return Command(str(tree), tree[0] not in UNBUILT)
+            case ("memory", *regions):
+                return Memory([self.region(*region) for region in regions])
+            case ("phdrs", *headers):
+                return ProgramHeaders([self.header(*header) for header in headers])
+            case ("format", *names):
+                return Format([name.decode() for name in names])
+        return Command(str(tree))
+
+    def region(self, _, name, origin, length):
+        return Region(name.decode(), self.expression(origin), self.expression(length))
+
+    def header(self, _, name, header_type, *properties):
+        flags = dict(properties).get("flags")
+        header_flags = None if flags is None else self.expression(flags)
+        return Header(name.decode(), self.expression(header_type), header_flags)
 
     def pattern(self, tree):
         return Pattern("SORT", tree[1].decode()) if isinstance(tree, tuple) else Pattern("", tree.decode())
@@ -77,11 +91,11 @@ class Trees:
     def section(self, name, contents, items):
         def clause(word):
             return self.expression(items[word]) if word in items else None
-        attribute = items["attribute"].decode() if "attribute" in items else None
-        is_assigned = "region" in items or "headers" in items
+        attribute, region = (items[word].decode() if word in items else None for word in ("attribute", "region"))
+        headers = [header.decode() for header in items.get("headers", [])]
         statements = [self.statement(statement) for statement in contents]
         return Section(name.decode(), statements, attribute, clause("start"), clause("at"), clause("align"),
-                       clause("fill"), is_assigned)
+                       clause("fill"), region, headers)
 
 
 def tree_of(text):
