@@ -9,6 +9,9 @@ section .p 0x0000000000000004 0x0000000000000004 0x0000000000000002 2 AX - - -
 section .q 0x0000000000000006 0x0000000000000006 0x0000000000000000 1 A - - -
 input 0 0x0000000000000000 .o f.o .text.x
 input 1 0x0000000000000004 .p f.o .text
+segment 0x00000001 4 - .o
+segment 0x00000001 5 - .p
+segment 0x00000001 4 - .q
 ";
 
 const FILES: &[u8] = b"section .a 0x0000000000000000 0x0000000000000000 0x0000000000000006 1 A - - -
@@ -17,6 +20,7 @@ input 0 0x0000000000000000 .a c.o .r
 input 1 0x0000000000000006 .b d.o .r
 input 2 0x0000000000000001 .a lib/c.o .s
 input 3 0x0000000000000007 .b c.o .s
+segment 0x00000001 4 - .a,.b
 ";
 
 const ESCAPED: &[u8] =
@@ -33,6 +37,7 @@ input 4 0x0000000000000004 .b f.o .text.bar.foo
 input 5 0x0000000000000009 .text.bar.baz f.o .text.bar.baz
 input 6 0x0000000000000001 .a f.o foo*bar
 input 7 0x0000000000000005 .b f.o .mydata.x
+segment 0x00000001 4 - .a,.b,fooxbar,.mydata.10,.text.bar.baz
 ";
 
 const NAMES: &[u8] = b"section,f.o,foo*bar,1,1,A
@@ -76,6 +81,7 @@ const SORTED: &[u8] =
 input 0 0x0000000000000004 .t f.o .t.b
 input 1 0x0000000000000000 .t f.o .t.a
 input 2 0x0000000000000000 .t f.o .u
+segment 0x00000001 4 - .t
 ";
 
 const MIXED: &[u8] = b"section .t 0x0000000000000000 0x0000000000000000 0x0000000000000016 8 A - - -
@@ -85,6 +91,7 @@ input 2 0x0000000000000010 .t f.o .t.a
 input 3 0x0000000000000014 .t f.o .t.b
 input 4 0x0000000000000008 .t f.o .u
 input 5 0x000000000000000c .t f.o .v
+segment 0x00000001 4 - .t
 ";
 
 const BY_ALIGNMENT: &[u8] =
@@ -92,6 +99,7 @@ const BY_ALIGNMENT: &[u8] =
 input 0 0x0000000000000000 .t f.o .t.b
 input 1 0x0000000000000001 .t f.o .t.a
 input 2 0x0000000000000002 .t f.o .a
+segment 0x00000001 4 - .t
 ";
 
 const KEPT: &[u8] = b"section,f.o,.t.b,2,2,A
@@ -138,6 +146,7 @@ discard 2 f.o .d
 input 3 0x0000000000000001 .b f.o .note.b
 input 4 0x0000000000000004 /DISCARD/ f.o /DISCARD/
 location 7 0x0000000000000001
+segment 0x00000001 4 - .a,.b,/DISCARD/
 ";
 
 const DISCARDING: &[u8] =
@@ -219,10 +228,10 @@ fn order_of_faults(rt: HostRuntime) -> Result<(), Fail> {
             b"fault 8 BadPattern statement=1 name=**\n",
         ),
         (
-            "program headers, then a pattern",
-            b"PHDRS { t PT_LOAD; } SECTIONS { .a : { *(**) } }",
+            "program headers without type, then a pattern",
+            b"PHDRS { t x; } SECTIONS { .a : { *(**) } }",
             b"",
-            b"fault 38 Unsupported index=0\n",
+            b"fault 8 BadPattern statement=2 name=**\n",
         ),
         (
             "a pattern, then a second section of one name",

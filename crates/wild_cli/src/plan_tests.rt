@@ -10,6 +10,8 @@ input 0 0x0000000000000004 .a f.o .a
 input 1 0x0000000000000008 .a f.o .c
 input 2 0x0000000000000000 .a f.o .b
 input 3 0x0000000000000010 .d f.o .d
+segment 0x00000001 4 - .a
+segment 0x00000001 5 - .d
 ";
 
 #[test]
@@ -63,11 +65,13 @@ input 1 0x0000000000000008 .b f.o .b
 location 0 0x0000000000000010
 location 4 0x0000000000000008
 location 8 0x0000000000000020
+segment 0x00000001 4 - .a,.b,.c
 ";
 
 const LAST: &[u8] = b"section .a 0xfffffffffffffffe 0xfffffffffffffffe 0x0000000000000001 1 A - - -
 input 0 0xfffffffffffffffe .a f.o .a
 location 0 0xfffffffffffffffe
+segment 0x00000001 4 - .a
 ";
 
 #[test]
@@ -157,6 +161,7 @@ fn counters_without_value(rt: HostRuntime) -> Result<(), Fail> {
 const IDLE: &[u8] = b"section .a 0x0000000000000010 0x0000000000000010 0x0000000000000001 1 A - - -
 input 0 0x0000000000000010 .a f.o .a
 location 6 0x0000000000000010
+segment 0x00000001 4 - .a
 ";
 
 #[test]
@@ -202,19 +207,19 @@ fn statements_after_them(rt: HostRuntime) -> Result<(), Fail> {
 }
 
 #[test]
-fn commands_that_are_not_built(rt: HostRuntime) -> Result<(), Fail> {
+fn bad_program_headers(rt: HostRuntime) -> Result<(), Fail> {
     let cases: [Case<'_>; 2] = [
         (
-            "program headers",
-            b"SECTIONS { .a : { *(.a) } } PHDRS { text PT_LOAD; }",
+            "a type that is no constant",
+            b"SECTIONS { .a : { *(.a) } } PHDRS { text x FLAGS(1 / 0); }",
             b"",
-            b"fault 38 Unsupported index=3\n",
+            b"fault 13 NotConstant statement=3\n",
         ),
         (
-            "program headers after commands that do nothing",
-            b"ENTRY(x) MEMORY { r : ORIGIN = 0, LENGTH = 16 } PHDRS { text PT_LOAD; }",
+            "flags of five bytes",
+            b"ENTRY(x) MEMORY { r : ORIGIN = 0, LENGTH = 16 } PHDRS { text PT_LOAD FLAGS(0x100000000); }",
             b"",
-            b"fault 38 Unsupported index=2\n",
+            b"fault 12 BadHeader index=0 value=4294967296\n",
         ),
     ];
     assert_faults(&rt, rt.alloc(), &cases)?;
@@ -224,12 +229,14 @@ fn commands_that_are_not_built(rt: HostRuntime) -> Result<(), Fail> {
 const FIRST: &[u8] = b"section .a 0x0000000000001000 0x0000000000001000 0x0000000000000004 4 A - - -
 input 0 0x0000000000001000 .a f.o .a
 location 0 0x0000000000001000
+segment 0x00000001 4 - .a
 symbol x 0x0000000000001004 - default
 ";
 
 const NAMED: &[u8] = b"section .a 0x0000000000000010 0x0000000000000010 0x0000000000000008 8 A - - -
 input 0 0x0000000000000010 .a f.o .a
 location 0 0x0000000000000010
+segment 0x00000001 4 - .a
 symbol t 0x0000000000000012 .a default
 symbol x 0x0000000000000013 - default
 symbol h 0x0000000000000009 - hidden
@@ -245,6 +252,7 @@ y = ALIGNOF(.a) + ADDR(.a) + LOADADDR(.a);";
 
 const SIZED: &[u8] = b"section .b 0x0000000000000000 0x0000000000000000 0x0000000000000003 1 A - - -
 input 0 0x0000000000000000 .b f.o .b
+segment 0x00000001 4 - .b
 symbol x 0x0000000000000003 - default
 ";
 
@@ -546,6 +554,7 @@ section .a 0x0000000000000003 0x0000000000000003 0x0000000000000001 1 A - - -
 input 0 0x0000000000000000 .b f.o .b
 input 1 0x0000000000000003 .a f.o .a
 input 2 0x0000000000000001 .b f.o .b
+segment 0x00000001 4 - .b,.a
 ";
 
 const JOINED: &[u8] =
@@ -558,6 +567,8 @@ discard 2 f.o -
 input 3 0x0000000000000006 .b f.o .x
 input 4 0x0000000000000008 .c f.o .c
 discard 5 f.o .a
+segment 0x00000001 4 - .a,.b
+segment 0x00000001 6 - .c
 symbol s 0x0000000000000005 .b default
 symbol e 0x0000000000000008 - default
 ";
@@ -565,6 +576,7 @@ symbol e 0x0000000000000008 - default
 const EXCLUDED: &[u8] =
     b"section .a 0x0000000000000000 0x0000000000000000 0x0000000000000000 1 A - - -
 discard 0 f.o .a
+segment 0x00000001 4 - .a
 ";
 
 const JOINING: &[u8] = b"section,f.o,.b,2,1,A

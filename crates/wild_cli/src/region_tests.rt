@@ -34,6 +34,9 @@ input 2 0x0000000008000144 .text f.o .text.f
 input 3 0x0000000020000000 .data f.o .data
 input 4 0x0000000020000008 .bss f.o .bss
 location 7 0x000000000800014c
+segment 0x00000001 4 - .vectors
+segment 0x00000001 5 - .text
+segment 0x00000001 6 - .data,.bss
 symbol _etext 0x000000000800014c .text default
 symbol _sdata 0x0000000020000000 .data default
 symbol _edata 0x0000000020000008 .data default
@@ -50,6 +53,9 @@ input 0 0x0000000000000100 .a f.o .a
 input 1 0x0000000000000108 .b f.o .b
 input 2 0x0000000000000104 .c f.o .c
 location 1 0x0000000000000001
+segment 0x00000001 4 - .a
+segment 0x00000001 4 - .b
+segment 0x00000001 4 - .c
 ",
         ),
         (
@@ -60,6 +66,7 @@ location 1 0x0000000000000001
 section .a 0x0000000000000100 0x0000000000000100 0x0000000000000004 1 A - R -
 input 0 0x0000000000000100 .a f.o .a
 location 2 0x0000000000000063
+segment 0x00000001 4 - .a
 ",
         ),
         (
@@ -75,6 +82,7 @@ symbol y 0x0000000000000400 - default
             b"MEMORY { R : o = 4, l = 2 } SECTIONS { .a 0x10 : { x = ORIGIN(R); y = LENGTH(R); } }",
             b"",
             b"section .a 0x0000000000000010 0x0000000000000010 0x0000000000000000 1 A - - -
+segment 0x00000001 4 - .a
 symbol x 0x0000000000000004 .a default
 symbol y 0x0000000000000012 .a default
 ",
@@ -162,6 +170,7 @@ fn starts_of_segments(rt: HostRuntime) -> Result<(), Fail> {
             b"section .a 0x0000000000000080 0x0000000000000080 0x0000000000000004 1 A - - -
 input 0 0x0000000000000080 .a f.o .a
 location 0 0x0000000000000080
+segment 0x00000001 4 - .a
 ",
         ),
         (
@@ -170,6 +179,7 @@ location 0 0x0000000000000080
             b"",
             b"section .a 0x0000000000000000 0x0000000000000000 0x0000000000000008 1 A - - -
 location 2 0x0000000000000008
+segment 0x00000001 4 - .a
 symbol w 0x0000000000000000 - default
 symbol x 0x0000000000000001 - default
 symbol y 0x0000000000000010 - default
@@ -181,6 +191,7 @@ symbol y 0x0000000000000010 - default
             b"",
             b"section .a 0x0000000000000000 0x0000000000000000 0x0000000000000008 1 A - - -
 location 1 0x0000000000000008
+segment 0x00000001 4 - .a
 ",
         ),
     ];

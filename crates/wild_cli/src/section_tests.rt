@@ -12,6 +12,7 @@ fn starts(rt: HostRuntime) -> Result<(), Fail> {
             b"",
             b"section .s 0x0000000000001000 0x0000000000001000 0x0000000000000100 1 A - - -
 location 2 0x0000000000001100
+segment 0x00000001 4 - .s
 symbol x 0x0000000000001001 .s default
 ",
         ),
@@ -21,6 +22,7 @@ symbol x 0x0000000000001001 .s default
             b"section,f.o,.a,1,1,A\n",
             b"section .a 0xfffffffffffffffe 0xfffffffffffffffe 0x0000000000000001 1 A - - -
 input 0 0xfffffffffffffffe .a f.o .a
+segment 0x00000001 4 - .a
 ",
         ),
         (
@@ -30,6 +32,7 @@ input 0 0xfffffffffffffffe .a f.o .a
             b"section .a 0x0000000000000009 0x0000000000000009 0x0000000000000000 1 A - - -
 section .b 0x000000000000000c 0x000000000000000c 0x0000000000000000 4 A - - -
 location 0 0x0000000000000008
+segment 0x00000001 4 - .a,.b
 ",
         ),
         (
@@ -38,6 +41,7 @@ location 0 0x0000000000000008
             b"section,f.o,.a,4,1,A\n",
             b"section .a 0x0000000000000003 0x0000000000000003 0x0000000000000004 8 A - - -
 input 0 0x0000000000000003 .a f.o .a
+segment 0x00000001 4 - .a
 ",
         ),
         (
@@ -47,6 +51,7 @@ input 0 0x0000000000000003 .a f.o .a
             b"section .a 0x0000000000000008 0x0000000000000008 0x0000000000000008 8 A - - -
 input 0 0x0000000000000008 .a f.o .a
 location 0 0x0000000000000001
+segment 0x00000001 4 - .a
 ",
         ),
     ];
@@ -62,6 +67,7 @@ fn loads(rt: HostRuntime) -> Result<(), Fail> {
             b"SECTIONS { .a 0x10 : AT(ADDR(.a) + . + 1) { } }",
             b"",
             b"section .a 0x0000000000000010 0x0000000000000021 0x0000000000000000 1 A - - -
+segment 0x00000001 4 - .a
 ",
         ),
         (
@@ -71,6 +77,7 @@ fn loads(rt: HostRuntime) -> Result<(), Fail> {
             b"section .a 0x0000000000000000 0x0000000000004000 0x0000000000000004 1 A - - -
 section .b 0x0000000000000004 0x0000000000004004 0x0000000000000000 1 A - - -
 input 0 0x0000000000000000 .a f.o .a
+segment 0x00000001 4 - .a,.b
 symbol x 0x0000000000004000 - default
 ",
         ),
@@ -134,6 +141,7 @@ fn floating(rt: HostRuntime) -> Result<(), Fail> {
 section .b 0x0000000000000000 0x0000000000000000 0x0000000000000004 1 A - - -
 input 0 0x0000000000000000 .a f.o .a
 input 1 0x0000000000000000 .b f.o .b
+segment 0x00000001 4 - .b
 ",
         ),
         (
@@ -146,6 +154,8 @@ section .c 0x0000000000000004 0x0000000000000004 0x0000000000000001 1 A - - -
 input 0 0x0000000000000000 .a f.o .a
 input 1 0x0000000000000000 .b f.o .b
 location 7 0x0000000000000005
+segment 0x00000001 4 - .b
+segment 0x00000001 4 - .c
 ",
         ),
         (
@@ -155,6 +165,7 @@ location 7 0x0000000000000005
             b"section .a 0x0000000000000008 0x0000000000000008 0x0000000000000004 1 WX - - -
 section .b 0x0000000000000000 0x0000000000000000 0x0000000000000000 1 A - - -
 input 0 0x0000000000000008 .a f.o .a
+segment 0x00000001 4 - .b
 symbol x 0x0000000000000000 .b default
 ",
         ),
@@ -166,6 +177,7 @@ symbol x 0x0000000000000000 .b default
 section .a 0x0000000000000000 0x0000000000000000 0x0000000000000001 1 A - - -
 input 0 0x0000000000000000 .o f.o .o
 input 1 0x0000000000000000 .a f.o .a
+segment 0x00000001 4 - .a
 ",
         ),
         (
@@ -175,6 +187,7 @@ input 1 0x0000000000000000 .a f.o .a
             b"section .a 0x0000000000000000 0x0000000000000000 0x0000000000000005 1 A - - -
 input 0 0x0000000000000000 .a f.o .a
 input 1 0x0000000000000004 .a f.o .a
+segment 0x00000001 4 - .a
 ",
         ),
     ];
@@ -191,6 +204,7 @@ fn flags(rt: HostRuntime) -> Result<(), Fail> {
             b"section,f.o,.a,1,1,AWX\n",
             b"section .a 0x0000000000000000 0x0000000000000000 0x0000000000000001 1 AX - - -
 input 0 0x0000000000000000 .a f.o .a
+segment 0x00000001 5 - .a
 ",
         ),
         (
@@ -199,6 +213,7 @@ input 0 0x0000000000000000 .a f.o .a
             b"section,f.o,.a,1,1,AW\n",
             b"section .a 0x0000000000000000 0x0000000000000000 0x0000000000000001 1 AWB - - -
 input 0 0x0000000000000000 .a f.o .a
+segment 0x00000001 6 - .a
 ",
         ),
         (
@@ -207,6 +222,7 @@ input 0 0x0000000000000000 .a f.o .a
             b"section,f.o,.bss,8,8,AWB\n",
             b"section .bss 0x0000000000000000 0x0000000000000000 0x0000000000000008 8 AWB - - -
 input 0 0x0000000000000000 .bss f.o .bss
+segment 0x00000001 6 - .bss
 ",
         ),
         (
@@ -216,6 +232,7 @@ input 0 0x0000000000000000 .bss f.o .bss
             b"section .d 0x0000000000000000 0x0000000000000000 0x0000000000000002 1 AW - - -
 input 0 0x0000000000000000 .d f.o .bss
 input 1 0x0000000000000001 .d f.o .a
+segment 0x00000001 6 - .d
 ",
         ),
         (
@@ -224,6 +241,8 @@ input 1 0x0000000000000001 .d f.o .a
             b"section,f.o,.t,1,1,AWBT\n",
             b"section .t 0x0000000000000000 0x0000000000000000 0x0000000000000001 1 AWBT - - -
 input 0 0x0000000000000000 .t f.o .t
+segment 0x00000001 6 - .t
+segment 0x00000007 4 - .t
 ",
         ),
         (
@@ -232,6 +251,7 @@ input 0 0x0000000000000000 .t f.o .t
             b"",
             b"section .a 0x0000000000000000 0x0000000000000000 0x0000000000000000 1 A 00000090 - -
 section .b 0x0000000000000000 0x0000000000000000 0x0000000000000000 1 A ffffffff - -
+segment 0x00000001 4 - .a,.b
 ",
         ),
     ];
@@ -249,6 +269,7 @@ fn contents(rt: HostRuntime) -> Result<(), Fail> {
             b"section .a 0x0000000000000010 0x0000000000000010 0x0000000000000008 1 A - - -
 input 0 0x0000000000000010 .a f.o .a
 input 1 0x0000000000000014 .a f.o .b
+segment 0x00000001 4 - .a
 symbol s 0x0000000000000010 .a default
 symbol m 0x0000000000000014 .a default
 symbol e 0x0000000000000018 .a default
@@ -261,6 +282,7 @@ symbol e 0x0000000000000018 .a default
             b"section .a 0x0000000000000000 0x0000000000000000 0x0000000000000014 1 A - - -
 input 0 0x0000000000000010 .a f.o .a
 location 1 0x0000000000000010
+segment 0x00000001 4 - .a
 symbol x 0x0000000000000010 .a default
 ",
         ),
@@ -271,6 +293,7 @@ symbol x 0x0000000000000010 .a default
             b"section .a 0x0000000000000011 0x0000000000000011 0x0000000000000008 1 A - - -
 input 0 0x0000000000000011 .a f.o .a
 location 2 0x0000000000000019
+segment 0x00000001 4 - .a
 ",
         ),
         (
@@ -280,6 +303,7 @@ location 2 0x0000000000000019
             b"section .a 0x0000000000000010 0x0000000000000010 0x0000000000000008 1 A - - -
 location 1 0x0000000000000014
 location 2 0x0000000000000018
+segment 0x00000001 4 - .a
 ",
         ),
         (
@@ -287,6 +311,7 @@ location 2 0x0000000000000018
             b"SECTIONS { .a 8 : { PROVIDE(p = .); PROVIDE_HIDDEN(h = p + 1); CONSTRUCTORS \"\" = 1 / 1; } }",
             b"",
             b"section .a 0x0000000000000008 0x0000000000000008 0x0000000000000000 1 A - - -
+segment 0x00000001 4 - .a
 symbol p 0x0000000000000008 .a default
 symbol h 0x0000000000000009 .a hidden
 ",
@@ -296,6 +321,7 @@ symbol h 0x0000000000000009 .a hidden
             b"SECTIONS { .a 8 : { ASSERT(. == 0, m) ASSERT(ADDR(.a) == 0, m); } }",
             b"",
             b"section .a 0x0000000000000008 0x0000000000000008 0x0000000000000000 1 A - - -
+segment 0x00000001 4 - .a
 ",
         ),
     ];
@@ -375,6 +401,7 @@ fn placements(rt: HostRuntime) -> Result<(), Fail> {
             b"section .a 0x0000000000004000 0x0000000000004000 0x0000000000000001 1 A - - -
 input 0 0x0000000000004000 .a f.o .a
 location 0 0x0000000000004000
+segment 0x00000001 4 - .a
 symbol base 0x0000000000004000 - default
 ",
         ),
@@ -385,6 +412,7 @@ symbol base 0x0000000000004000 - default
             b"section .a 0x0000000000004000 0x0000000000004000 0x0000000000000001 1 A - - -
 input 0 0x0000000000004000 .a f.o .a
 location 0 0x0000000000004000
+segment 0x00000001 4 - .a
 symbol base 0x0000000000004000 - default
 ",
         ),
@@ -395,6 +423,7 @@ symbol base 0x0000000000004000 - default
             b"section .a 0x0000000000000010 0x0000000000000010 0x0000000000000001 1 A - - -
 input 0 0x0000000000000010 .a f.o .a
 location 0 0x0000000000000010
+segment 0x00000001 4 - .a
 ",
         ),
         (
@@ -404,6 +433,7 @@ location 0 0x0000000000000010
             b"section .a 0x0000000000000020 0x0000000000000020 0x0000000000000001 1 A - - -
 input 0 0x0000000000000020 .a f.o .a
 location 0 0x0000000000000020
+segment 0x00000001 4 - .a
 symbol t 0x0000000000000020 .a default
 ",
         ),
@@ -414,6 +444,7 @@ symbol t 0x0000000000000020 .a default
             b"section .a 0x0000000000000011 0x0000000000000011 0x0000000000000001 1 A - - -
 input 0 0x0000000000000011 .a f.o .a
 location 0 0x0000000000000011
+segment 0x00000001 4 - .a
 symbol t 0x0000000000000011 .a default
 ",
         ),
@@ -425,6 +456,7 @@ symbol t 0x0000000000000011 .a default
 input 0 0x0000000000000004 .a f.o .a
 location 0 0x0000000000000004
 location 4 0x000000000000000c
+segment 0x00000001 4 - .a
 symbol t 0x0000000000000004 .a default
 ",
         ),
@@ -546,13 +578,13 @@ fn checks(rt: HostRuntime) -> Result<(), Fail> {
 }
 
 #[test]
-fn sections_that_are_not_built(rt: HostRuntime) -> Result<(), Fail> {
+fn headers_of_sections(rt: HostRuntime) -> Result<(), Fail> {
     let cases: [Case<'_>; 2] = [
         (
-            "a header",
+            "an unknown header",
             b"SECTIONS { .a : { } .b : { } :h }",
             b"",
-            b"fault 38 Unsupported index=2\n",
+            b"fault 19 UnknownPhdr name=h\n",
         ),
         (
             "a name before that",
