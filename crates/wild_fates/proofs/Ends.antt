@@ -1,17 +1,17 @@
 -- The checks of a memory region, by what its origin and its length are.
-use Rattle.std.proofs.Common.{◌≡◌, ◌∙◌, ◌⊎◌, ℕ, ◌+◌, ◌^◌, Bool, true, false, List, cond, refl, sym, ap, inl, inr, Option, Some, None, Result, Ok, Err}
+use Rattle.std.proofs.Common.{◌≡◌, ◌∙◌, ℕ, ◌+◌, ◌^◌, Bool, true, false, List, cond, refl, inl, inr, None, Ok, Err}
 use Rattle.std.specs.Prelude.{nat_lt}
 use Rattle.wild_names.specs.declared.fault.Fault.{Fault}
-use Rattle.wild_names.specs.declared.fault.Fault.TheVariants.{NoMemory, Overflow}
+use Rattle.wild_names.specs.declared.fault.Fault.TheVariants.{Overflow}
 use Rattle.wild_script_tree.specs.declared.tree.MemoryRegion.{MemoryRegion}
 use Rattle.wild_value_spec.specs.Answer.{Gives}
 use Rattle.wild_value_spec.specs.Const.{Constant, const, number_in}
 use Rattle.wild_value_spec.specs.Value.{sum_of}
 use Rattle.wild_value_spec.specs.declared.region.Region.{Region}
-use Rattle.wild_plan_spec.specs.Checks.{Check, check, constant_fault, failing, number_checks, region_checks}
+use Rattle.wild_plan_spec.specs.Checks.{Check, check, failing, number_checks, region_checks}
 use Rattle.wild_plan_spec.specs.Regions.{region_of}
 use Rattle.wild_fates.specs.Numbers.{number_or_fault}
-use Rattle.wild_fates.specs.Passes.{IsWanted, Passes}
+use Rattle.wild_fates.specs.Passes.{IsWanted}
 
 -- ---- a number
 

@@ -1,5 +1,5 @@
 -- The last of what some places list: of each MEMORY, or of each PHDRS.
-use Rattle.std.proofs.Common.{◌≡◌, ◌∙◌, ℕ, zero, suc, ◌+◌, ◌-◌, ◌<◌, ◌≤◌, arith, List, [], ◌∷◌, ◌++◌, drop, get_or, length, refl, sym, ap}
+use Rattle.std.proofs.Common.{◌≡◌, ◌∙◌, ℕ, zero, suc, ◌+◌, ◌<◌, arith, List, [], ◌∷◌, ◌++◌, drop, get_or, length, refl, sym, ap}
 use Rattle.wild_plan_spec.specs.Places as spec
 use Rattle.wild_plan_spec.specs.Regions.{last_or}
 use Rattle.wild_fates.specs.declared.places.Place.{Place}

@@ -11,7 +11,7 @@ use Rattle.wild_plan_spec.specs.Statements.{sections_of}
 use Rattle.wild_plan_spec.specs.Rules.{Rule, rules_of}
 use Rattle.wild_plan_spec.specs.Names.{Name}
 use Rattle.wild_plan_spec.specs.Fates.{names_of, orphans, names_asked, orphans_of}
-use Rattle.wild_plan_spec.specs.Places.{Place, Open, Rows, Close, script_places}
+use Rattle.wild_plan_spec.specs.Places.{Place, Open, Rows, Close}
 use Rattle.wild_plan_spec.specs.Orphans.{orphan_places}
 use Rattle.wild_segments.specs.Members.{Header}
 use Rattle.wild_plan_spec.specs.Headers.{headers_of}
@@ -19,7 +19,7 @@ use Rattle.wild_plan_spec.specs.Regions.{region_names, regions_of}
 use Rattle.wild_fates.specs.declared.regions.Regions.{Regions}
 use Rattle.wild_fates.specs.declared.script_fates.Parts.{Parts}
 use Rattle.wild_fates.specs.declared.script_fates.ScriptFates.{ScriptFates}
-use Rattle.wild_fates.specs.Parts.{IsParts, AreFatesBy, AreFates, memory_in, parts_checks}
+use Rattle.wild_fates.specs.Parts.{IsParts, AreFatesBy, AreFates, parts_checks}
 use Rattle.wild_fates.specs.Orphaned.{orphans_from}
 use Rattle.wild_fates.specs.Targets.{targets}
 use Rattle.wild_fates.specs.Shown.{shown_places}

@@ -1,5 +1,5 @@
-use Rattle.std.proofs.Common.{Some, List}
-use Rattle.wild_plan_spec.specs.Checks.{Check, header_number_checks}
+use Rattle.std.proofs.Common.{Some}
+use Rattle.wild_plan_spec.specs.Checks.{header_number_checks}
 use Rattle.wild_fates.proofs.Failing.{wanted_before, wanted_after, none_after, exits}
 use Rattle.wild_fates.proofs.headers.check_header.Goals as goal
 
