@@ -1,7 +1,11 @@
 //! Program headers and segments.
 
-use crate::tests::{Case, assert_faults, assert_texts};
+use crate::Tray;
+use crate::tests::{Case, assert_faults, assert_texts, planned, planned_for};
+use std::alloc::Global;
+use std::fmt::Write;
 use std::test::Fail;
+use wild_names::NoMemory;
 
 #[test]
 fn program_headers(rt: HostRuntime) -> Result<(), Fail> {
@@ -183,3 +187,101 @@ fn faults_of_headers(rt: HostRuntime) -> Result<(), Fail> {
     Ok(())
 }
 
+const STARTED: &[u8] =
+    b"SECTIONS { . = SEGMENT_START(\"text-segment\", 0x80); .a : { *(.a) } } x = SIZEOF_HEADERS;";
+
+const ONE_ROW: &[u8] = b"section,f.o,.a,4,1,A\n";
+
+const FORMATS: &[u8] = b"OUTPUT_FORMAT(elf64-littleaarch64, elf64-big, elf64-littleaarch64)";
+
+#[test]
+fn options(rt: HostRuntime) -> Result<(), Fail> {
+    let alloc = rt.alloc();
+    let cases: [(&str, &[&[u8]], &[u8], &[u8], &[u8]); 6] = [
+        (
+            "a start",
+            &[b"--start=text-segment=0x40"],
+            STARTED,
+            ONE_ROW,
+            b"section .a 0x0000000000000040 0x0000000000000040 0x0000000000000004 1 A - - -
+input 0 0x0000000000000040 .a f.o .a
+location 0 0x0000000000000040
+segment 0x00000001 4 - .a
+symbol x 0x0000000000000000 - default
+",
+        ),
+        (
+            "a start of another segment, and headers",
+            &[b"--start=data-segment=0x40", b"--headers=64"],
+            STARTED,
+            ONE_ROW,
+            b"section .a 0x0000000000000080 0x0000000000000080 0x0000000000000004 1 A - - -
+input 0 0x0000000000000080 .a f.o .a
+location 0 0x0000000000000080
+segment 0x00000001 4 - .a
+symbol x 0x0000000000000040 - default
+",
+        ),
+        (
+            "a partial link",
+            &[b"--kind=partial"],
+            STARTED,
+            ONE_ROW,
+            b"section .a 0x0000000000000080 0x0000000000000080 0x0000000000000004 1 A - - -
+input 0 0x0000000000000080 .a f.o .a
+location 0 0x0000000000000080
+symbol x 0x0000000000000000 - default
+",
+        ),
+        ("a machine", &[b"--arch=aarch64"], FORMATS, b"", b""),
+        (
+            "another machine",
+            &[b"--arch=riscv64"],
+            FORMATS,
+            b"",
+            b"fault 17 OutputFormat name=elf64-littleaarch64\n",
+        ),
+        (
+            "an order of bytes",
+            &[b"--arch=aarch64", b"--endian=big"],
+            FORMATS,
+            b"",
+            b"fault 17 OutputFormat name=elf64-big\n",
+        ),
+    ];
+    for (case, options, script, table, written) in cases {
+        let (_, out, err) = planned_for(alloc, options, script, table)?;
+        let text = if out.bytes().is_empty() {
+            err.bytes()
+        } else {
+            out.bytes()
+        };
+        assert_eq!(rt; text, written, "{case}");
+    }
+    Ok(())
+}
+
+// So many empty sections, each with a start expression, and the status of their run.
+fn many_sections(alloc: Global, count: usize) -> Result<(u8, Tray, Tray), NoMemory> {
+    let mut script = String::new(alloc);
+    script.push_str("SECTIONS {")?;
+    for number in 0..count {
+        write!(script, " .s{number} 0 : {{ }}")?;
+    }
+    script.push_str(" }")?;
+    planned(alloc, script.as_bytes(), b"")
+}
+
+#[test]
+fn as_many_segments_as_may_be(rt: HostRuntime) -> Result<(), Fail> {
+    let alloc = rt.alloc();
+    let (answer, _, _) = many_sections(alloc, 255)?;
+    assert_eq!(rt; answer, 0);
+    let (answer, _, err) = many_sections(alloc, 256)?;
+    assert_eq!(rt; answer, 1);
+    assert_eq!(rt;
+        err.bytes(),
+        b"fault 21 TooManySegments segments=256\n".as_slice()
+    );
+    Ok(())
+}

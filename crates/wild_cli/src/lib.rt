@@ -19,6 +19,8 @@ pub use wild_table::{TableFault, read_number, read_table};
 pub use wild_words::{Request, WordsFault, read_words};
 
 #[cfg(test)]
+mod header_tests;
+#[cfg(test)]
 mod pattern_tests;
 #[cfg(test)]
 mod plan_tests;

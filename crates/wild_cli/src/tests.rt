@@ -262,7 +262,20 @@ pub(crate) fn planned(
     script: &[u8],
     table: &[u8],
 ) -> Result<(u8, Tray, Tray), NoMemory> {
-    let words = names(alloc, &[b"plan", b"s", b"t"])?;
+    planned_for(alloc, &[], script, table)
+}
+
+// The same with these options.
+pub(crate) fn planned_for(
+    alloc: Global,
+    options: &[&[u8]],
+    script: &[u8],
+    table: &[u8],
+) -> Result<(u8, Tray, Tray), NoMemory> {
+    let mut words = names(alloc, &[b"plan", b"s", b"t"])?;
+    for option in options {
+        words.push(Name::new(alloc, option)?)?;
+    }
     let files = two_files(alloc, Name::new(alloc, script)?, table)?;
     let mut files = Shelf::new(files, Vec::new(alloc));
     let mut out = tray(alloc, None)?;
