@@ -8,8 +8,8 @@ use Rattle.wild_plan.proofs.Composing.{walk_refused, end_refused, lists_fit}
 use Rattle.wild_plan.proofs.Phases.{all_hold, segments_fail}
 use Rattle.wild_plan.proofs.pipeline.script_lists.Goals as goal
 
-pub find_case_segments-requires-facts : goal.find_case_segments-requires-facts
-find_case_segments-requires-facts c = ap shown_all c.as_slice.ensures ∙ c.in_ok-basis.ensures.facts
+pub find_case_segments-requires-clause-facts : goal.find_case_segments-requires-clause-facts
+find_case_segments-requires-clause-facts c = ap shown_all c.as_slice.ensures ∙ c.in_ok-basis.ensures.facts
 
 pub returns-in_err-segments-clause-refused : goal.returns-in_err-segments-clause-refused
 returns-in_err-segments-clause-refused c =
