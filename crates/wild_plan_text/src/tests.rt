@@ -2,7 +2,10 @@ use super::*;
 use std::alloc::Global;
 use std::test::Fail;
 use wild_base::{Alignment, Fault, InputFlags, Name, NoMemory, alignment};
-use wild_plan_spec::{Names, PlacedInput, PlacedLocation, PlacedSection, PlacedSymbol, RowNames};
+use wild_plan_spec::{
+    Names, PlacedInput, PlacedLocation, PlacedSection, PlacedSegment, PlacedSymbol, RowNames,
+    SectionIndexes,
+};
 
 // ---- names and addresses
 
@@ -78,7 +81,7 @@ fn sections(rt: HostRuntime) -> Result<(), Fail> {
     let alloc = rt.alloc();
     let plain = section(alloc, b".a", alignment::USIZE, InputFlags::ALLOC)?;
     let sections = [plain, full_section(alloc)?];
-    let text = lines_text(alloc, &sections, &[], &[], &[], &[])?;
+    let text = lines_text(alloc, &sections, &[], &[], &[], &[], false, &[])?;
     assert_eq!(rt; text.bytes(), SECTIONS.as_bytes());
     Ok(())
 }
@@ -102,9 +105,9 @@ fn rows(rt: HostRuntime) -> Result<(), Fail> {
         address: 4,
     };
     let names = [row(alloc, b".text")?, row(alloc, b"")?];
-    let lines = lines_text(alloc, &sections, &[], &[], &[], &[])?;
+    let lines = lines_text(alloc, &sections, &[], &[], &[], &[], false, &[])?;
     let placements = [kept, PlacedInput::Discarded];
-    let text = lines_text(alloc, &sections, &placements, &names, &[], &[])?;
+    let text = lines_text(alloc, &sections, &placements, &names, &[], &[], false, &[])?;
     assert_eq!(rt; &text.bytes()[lines.len()..], ROWS.as_bytes());
     Ok(())
 }
@@ -115,8 +118,39 @@ fn locations(rt: HostRuntime) -> Result<(), Fail> {
         statement: 3,
         address: 0x10,
     };
-    let text = lines_text(rt.alloc(), &[], &[], &[], &[location], &[])?;
+    let text = lines_text(rt.alloc(), &[], &[], &[], &[location], &[], false, &[])?;
     assert_eq!(rt; text.bytes(), b"location 3 0x0000000000000010\n".as_slice());
+    Ok(())
+}
+
+fn segment(alloc: Global, name: &[u8], held: &[usize]) -> Result<PlacedSegment, NoMemory> {
+    let mut sections = SectionIndexes::new(alloc);
+    for index in held {
+        sections.push(*index)?;
+    }
+    Ok(PlacedSegment {
+        ptype: 0x6474_e551,
+        flags: 6,
+        name: Name::new(alloc, name)?,
+        has_filehdr: false,
+        has_phdrs: true,
+        sections,
+    })
+}
+
+const SEGMENTS: &str = "segment 0x6474e551 6 - .a,.b\nsegment 0x6474e551 6 s -\n";
+
+#[test]
+fn segments(rt: HostRuntime) -> Result<(), Fail> {
+    let alloc = rt.alloc();
+    let plain = section(alloc, b".a", alignment::USIZE, InputFlags::ALLOC)?;
+    let sections = [plain, full_section(alloc)?];
+    let lines = lines_text(alloc, &sections, &[], &[], &[], &[], false, &[])?;
+    let segments = [segment(alloc, b"", &[0, 1])?, segment(alloc, b"s", &[])?];
+    let text = lines_text(alloc, &sections, &[], &[], &[], &segments, true, &[])?;
+    assert_eq!(rt; &text.bytes()[lines.len()..], SEGMENTS.as_bytes());
+    let text = lines_text(alloc, &sections, &[], &[], &[], &segments, false, &[])?;
+    assert_eq!(rt; &text.bytes()[lines.len()..], &SEGMENTS.as_bytes()[..29]);
     Ok(())
 }
 
@@ -141,12 +175,12 @@ const SYMBOLS: &str =
 fn symbols(rt: HostRuntime) -> Result<(), Fail> {
     let alloc = rt.alloc();
     let sections = [section(alloc, b".a", alignment::MIN, InputFlags::ALLOC)?];
-    let lines = lines_text(alloc, &sections, &[], &[], &[], &[])?;
+    let lines = lines_text(alloc, &sections, &[], &[], &[], &[], false, &[])?;
     let symbols = [
         symbol(alloc, b"x", Some(0), false)?,
         symbol(alloc, b"", None, true)?,
     ];
-    let text = lines_text(alloc, &sections, &[], &[], &[], &symbols)?;
+    let text = lines_text(alloc, &sections, &[], &[], &[], &[], false, &symbols)?;
     assert_eq!(rt; &text.bytes()[lines.len()..], SYMBOLS.as_bytes());
     Ok(())
 }
