@@ -88,9 +88,14 @@ class Maker:
         rng.shuffle(self.waiting)
         self.regions = rng.sample(REGION_NAMES, rng.choice([1, 1, 2, 3])) if self.chance(0.4) else []
         self.headers = rng.sample(HEADER_NAMES, rng.choice([0, 1, 2, 3])) if self.chance(0.35) else []
+        # Few scripts have several faults of regions, headers and names at once.
+        self.is_careless = self.chance(0.02)
 
     def chance(self, part):
         return self.rng.random() < part
+
+    def slips(self, part):
+        return self.chance(0.4 if self.is_careless else part)
 
     # ---- expressions
 
@@ -231,6 +236,8 @@ class Maker:
         """Of a symbol that no placement asks for."""
         rng = self.rng
         kind = rng.random()
+        if self.is_inside and kind < 0.08:
+            return self.asking(rng.choice([Here(), Number(small_number(rng)), Of("ADDR", self.opened[-1])]))
         if self.is_inside and kind < 0.5:
             return self.marked_expression(rng.choice([1, 2, 2, 3]))
         if kind < 0.2:
@@ -366,12 +373,12 @@ class Maker:
         return self.placement(lambda: self.region_start(region)) if self.chance(0.1) else None
 
     def named_region(self):
-        if self.chance(0.004):
+        if self.slips(0.004):
             return "none"
         return self.rng.choice(self.regions) if self.regions and self.chance(0.75) else None
 
     def named_headers(self):
-        if self.chance(0.003):
+        if self.slips(0.003):
             return ["unknown"]
         if not self.headers or self.chance(0.5):
             return ["NONE"] if self.chance(0.04) else []
@@ -443,19 +450,22 @@ class Maker:
     def region(self, name, index):
         rng = self.rng
         origin = Number(0x100000 * (index + 1)) if self.chance(0.95) else Number(rng.choice([0, 4, LARGEST, 0x100010]))
-        length = Number(0x80000) if self.chance(0.85) else Number(rng.choice([0, 1, 16, 0x100, LARGEST >> 1, LARGEST]))
-        return Region(name, self.clause(origin, Symbol("base"), 0.995), self.clause(length, Here(), 0.995))
+        length = Number(0x80000) if self.chance(0.85) else Number(rng.choice([0, 1, 16, 0x100, LARGEST >> 1]))
+        if self.slips(0.01):
+            length = Number(min(LARGEST, LARGEST - origin.value + rng.choice([0, 1])))
+        care = 0.7 if self.is_careless else 0.995
+        return Region(name, self.clause(origin, Symbol("base"), care), self.clause(length, Here(), care))
 
     def memory(self):
         names = list(self.regions)
-        if names and self.chance(0.03):
+        if names and self.slips(0.03):
             names.append(self.rng.choice(names))
         if len(names) > 1 and self.chance(0.03):
             names.pop()
         return Memory([self.region(name, index) for index, name in enumerate(names)])
 
     def header_number(self, numbers):
-        if self.chance(0.01):
+        if self.slips(0.01):
             return Number(self.rng.choice([1 << 32, LARGEST]))
         return self.clause(Number(self.rng.choice(numbers)), Here(), 0.99)
 
@@ -465,7 +475,7 @@ class Maker:
 
     def program_headers(self):
         names = list(self.headers)
-        if names and self.chance(0.03):
+        if names and self.slips(0.03):
             names.append(self.rng.choice(names))
         if self.chance(0.02):
             count = self.rng.choice([256, 256, 257, 300]) - len(names)
@@ -511,7 +521,7 @@ class Maker:
 
     def script(self):
         names = list(self.names)
-        if self.chance(0.02):
+        if self.slips(0.02):
             names.append(self.rng.choice([names[0], ""]))
         parts, commands = self.rng.randint(0, len(names)) if self.chance(0.3) else len(names), []
         for part in (names[:parts], names[parts:]):
