@@ -132,6 +132,9 @@ KNOWN = [
     ("SECTIONS { .a : { } :h }", [], [], "19 UnknownPhdr name=h"),
     ("PHDRS { a 1; b 1 << 32 FLAGS(x); }", [], [], "12 BadHeader index=1 value=4294967296"),
     ("PHDRS { a 1; a 1; } SECTIONS { .a : { } > R }", [], [], "16 DuplicateName name=a"),
+    ("PHDRS { a 1; a 1; } MEMORY { R : o = 0, l = 1 R : o = 1, l = 1 }", [], [], "16 DuplicateName name=R"),
+    ("PHDRS { a x; } MEMORY { R : o = 1 / 0, l = 1 }", [], [], "22 DivisionByZero statement=1"),
+    ("PHDRS { h 1; } SECTIONS { .a : { } :h } SECTIONS { .b : { } }", [], [], ["segment 0x00000001 4 h .a"]),
     ("PHDRS { headers PT_PHDR PHDRS; text PT_LOAD FILEHDR PHDRS FLAGS(5); data 1; none 4; } SECTIONS { "
      ".a : { *(.a) } :text .b : { *(.b) } /DISCARD/ : { } .c : { *(.c) } :data :none .d : { *(.d) } :NONE }",
      [".a 4 4 AX", ".b 4 4 A", ".c 4 4 AW", ".d 4 4 A", ".e 4 4 AW"], [],
