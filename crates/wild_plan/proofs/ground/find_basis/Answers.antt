@@ -26,9 +26,9 @@ returns c =
     let t = c.args.case.now.commands.now in
     let headers = ap (λ (xs : List (Bor (List Name))). targets xs) c.as_slice-headers.ensures ∙ c.requires.fates.section_headers in
     let facts =
-        (rw (c.as_slice-rows.ensures, fates, names) at c.in_ok-facts.ensures)
-        ∙ ap (λ (xs : List Section). facts_from xs (targets c.as_slice-headers.result.now) inputs.rows (fates_of t inputs) 0 (section_names t inputs)) sections
-        ∙ ap (λ (hs : List (List Name)). facts_from (sections_of t) hs inputs.rows (fates_of t inputs) 0 (section_names t inputs)) headers in
+    (rw (c.as_slice-rows.ensures, fates, names) at c.in_ok-facts.ensures)
+    ∙ ap (λ (xs : List Section). facts_from xs (targets c.as_slice-headers.result.now) inputs.rows (fates_of t inputs) 0 (section_names t inputs)) sections
+    ∙ ap (λ (hs : List (List Name)). facts_from (sections_of t) hs inputs.rows (fates_of t inputs) 0 (section_names t inputs)) headers in
     record {
       facts = facts;
       alignments = c.in_ok-alignments.ensures ∙ ap (λ fs. alignments_in (shown_all fs)) c.as_slice.ensures ∙ ap alignments_in facts;
