@@ -44,7 +44,6 @@ number_of (fault.Overflow left right) = 34
 number_of (fault.AlignOverflow value align) = 35
 number_of (fault.AssertFailed line message) = 36
 number_of fault.NoMemory = 37
-number_of (fault.Unsupported index) = 38
 
 -- an open comment and a nested sort are errors of a script
 abbrev pub script_error_of : Fault → Option LinkerScriptError

@@ -185,10 +185,6 @@ pub enum Fault {
     },
     /// Memory ran out.
     NoMemory,
-    /// What this row or statement asks for is not built yet.
-    Unsupported {
-        index: usize,
-    },
 }
 
 impl Fault {
@@ -222,7 +218,7 @@ impl Fault {
         }
     }
 
-    // The number of a fault that comes once values are worked out, or of the last two.
+    // The number of a fault that comes once values are worked out, or of the last.
     fn number_among_values(&self) -> u32
         requires { 21 < number_of self.now }
         ensures { result ≡ number_of self.now }
@@ -244,7 +240,6 @@ impl Fault {
             Fault::AlignOverflow { .. } => 35,
             Fault::AssertFailed { .. } => 36,
             Fault::NoMemory => 37,
-            Fault::Unsupported { .. } => 38,
             _ => unreachable!(),
         }
     }

@@ -30,7 +30,7 @@ fn numbers_of_faults(rt: HostRuntime) {
             22,
         ),
         ("a sum", Fault::Overflow { left: 1, right: 2 }, 34),
-        ("the last", Fault::Unsupported { index: 0 }, 38),
+        ("the last", Fault::NoMemory, 37),
     ] {
         assert_eq!(rt; fault.number(), number, "{case}");
     }

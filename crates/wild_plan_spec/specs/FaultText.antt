@@ -16,7 +16,7 @@ variant_names =
     ∷ codes "DivisionByZero" ∷ codes "ModuloByZero" ∷ codes "AlignZero" ∷ codes "UnknownSection"
     ∷ codes "UnknownSymbol" ∷ codes "NotLaidOut" ∷ codes "SymbolCycle" ∷ codes "DeepValue"
     ∷ codes "BeforeSection" ∷ codes "MovesBack" ∷ codes "Overlap" ∷ codes "RegionFull" ∷ codes "Overflow"
-    ∷ codes "AlignOverflow" ∷ codes "AssertFailed" ∷ codes "NoMemory" ∷ codes "Unsupported" ∷ []
+    ∷ codes "AlignOverflow" ∷ codes "AssertFailed" ∷ codes "NoMemory" ∷ []
 
 -- the name of a fault
 abbrev pub variant_name : Fault → List ℕ
@@ -48,7 +48,6 @@ where_field (fault.NotLaidOut statement name) = fault_field (codes "statement") 
 where_field (fault.DeepValue statement) = fault_field (codes "statement") (decimal statement)
 where_field (fault.MovesBack statement from to) = fault_field (codes "statement") (decimal statement)
 where_field (fault.AssertFailed line message) = fault_field (codes "line") (decimal line)
-where_field (fault.Unsupported index) = fault_field (codes "index") (decimal index)
 where_field f = []
 
 -- what else is said of a fault: names and numbers

@@ -31,7 +31,7 @@ fn push_fault(out: &mut String, fault: &Fault) -> Result<(), AllocError>
 }
 
 /// The names of the faults, by their numbers from 1 on.
-const VARIANT_NAMES: [&str; 38] = [
+const VARIANT_NAMES: [&str; 37] = [
     "Syntax",
     "UnclosedComment",
     "UnsupportedNestedSort",
@@ -69,7 +69,6 @@ const VARIANT_NAMES: [&str; 38] = [
     "AlignOverflow",
     "AssertFailed",
     "NoMemory",
-    "Unsupported",
 ];
 
 fn variant_name(fault: &Fault) -> &'static str
@@ -104,7 +103,6 @@ fn push_where(out: &mut String, fault: &Fault) -> Result<(), AllocError>
         | Fault::MovesBack { statement, .. } => push_number(out, "statement", *statement as u64),
         Fault::BadHeader { index, .. } => push_number(out, "index", *index),
         Fault::AssertFailed { line, .. } => push_number(out, "line", *line),
-        Fault::Unsupported { index } => push_number(out, "index", *index as u64),
         _ => Ok(()),
     }
 }

@@ -216,8 +216,8 @@ fn faults(rt: HostRuntime) -> Result<(), Fail> {
         ),
         (
             "the last number",
-            Fault::Unsupported { index: 0 },
-            b"fault 38 Unsupported index=0",
+            Fault::NoMemory,
+            b"fault 37 NoMemory",
         ),
     ];
     for (case, fault, text) in cases {
