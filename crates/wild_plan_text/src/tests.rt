@@ -214,11 +214,7 @@ fn faults(rt: HostRuntime) -> Result<(), Fail> {
             },
             b"fault 31 MovesBack statement=2 from=8 to=4",
         ),
-        (
-            "the last number",
-            Fault::NoMemory,
-            b"fault 37 NoMemory",
-        ),
+        ("the last number", Fault::NoMemory, b"fault 37 NoMemory"),
     ];
     for (case, fault, text) in cases {
         let printed = fault_text(alloc, &fault)?;
