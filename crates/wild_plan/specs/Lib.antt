@@ -17,3 +17,4 @@ pub use Rattle.wild_plan_spec.specs.Text
 pub use Rattle.wild_plan_spec.specs.FaultText
 pub mod Planned
 pub mod Segments
+pub mod Taken

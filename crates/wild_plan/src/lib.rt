@@ -11,11 +11,11 @@ mod facts;
 mod ground;
 mod listing;
 mod lists;
-mod overlap;
 mod pipeline;
 mod points;
 mod segments;
 mod symbols;
+mod taken;
 mod traits;
 mod walk;
 

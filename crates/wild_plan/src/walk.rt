@@ -1,21 +1,23 @@
 //! The walk over the places of a script, which finds each address.
 
-ghost use Rattle.std.specs.Prelude.{◌≡◌, ◌⊎◌, ◌+◌, nat_lt, [], length, map, IfOk, IfErr, OnOk};
+ghost use Rattle.std.specs.Prelude.{◌≡◌, ◌⊎◌, ℕ, ◌+◌, nat_lt, [], length, map, IfOk, IfErr, OnOk};
 ghost use Rattle.wild_names.specs.declared.fault.Fault.TheVariants as fault;
 ghost use Rattle.wild_eval.specs.Addresses.{known_of};
 ghost use Rattle.wild_value_spec.specs.Answer.{Gives, Returns};
 ghost use Rattle.wild_value_spec.specs.Value.{full_value};
 ghost use Rattle.wild_plan_spec.specs.Chunks.{largest};
 ghost use Rattle.wild_plan_spec.specs.Names.{or_empty};
-ghost use Rattle.wild_plan_spec.specs.Steps.{first_state, up, counter_in, with_counter, leaves, leaves_region, section_ended_inside, dot_before, dot_noted, start_found, section_started, load_found, section_loaded, section_begun, section_opened, row_placed, rows_placed, chunk_placed, chunk_collected, cursor_moved, cursor_set, section_ended, overlapped, section_ended_alone, section_ended_after, section_closed, counter_set, effect, step};
+ghost use Rattle.wild_plan_spec.specs.Steps.{first_state, up, counter_in, with_counter, leaves, leaves_region, section_ended_inside, is_floating, dot_before, dot_noted, start_found, section_started, load_found, section_loaded, section_begun, section_opened, row_placed, rows_placed, chunk_placed, chunk_collected, cursor_moved, cursor_set, section_ended, overlapped, section_ended_alone, section_ended_after, section_closed, counter_set, effect, step};
 ghost use Rattle.wild_plan_spec.specs.Walk.{Stands, Refuses};
 ghost use Rattle.wild_plan.specs.Ground.{shown_ground};
 ghost use Rattle.wild_plan.specs.Moves.{Moves, state_of};
+ghost use Rattle.wild_plan.specs.Taken.{AreTaken, AreTakenBefore, ends_of};
+ghost use Rattle.wild_walk_laws.specs.Nesting.{Free, Nests};
 ghost use Rattle.wild_fates.specs.Shown.{shown_place, shown_places};
 
 use crate::ground::Ground;
-use crate::overlap::lowest_sharing;
 use crate::points::{load_point, location_point, start_point};
+use crate::taken::Taken;
 use sqlite_items::Items;
 use std::alloc::{AllocError, Global};
 use wild_base::{Alignment, Fault, Name, NoMemory, alignment};
@@ -350,21 +352,28 @@ impl Walk {
 
     // The earlier section that it must not overlap; a floating one may overlap all.
     #[tactic(auto, unfolding(wild_plan_spec::specs::Steps::overlapped))]
-    fn overlapped(&self, ground: &Ground<'_>, section: usize) -> Option<usize>
+    fn overlapped(&self, ground: &Ground<'_>, taken: &Taken, section: usize) -> Option<usize>
+        requires { AreTaken (is_floating (shown_ground ground.now)) (known_of self.now.addresses) section (ends_of taken.now) }
         ensures { result ≡ overlapped (shown_ground ground.now) section (state_of self.now) }
     {
         if ground.is_floating(section) {
             return None;
         }
         let start = self.addresses.start(section);
-        lowest_sharing(ground, &self.addresses, start, self.cursor, section)
+        taken.lowest_sharing(&self.addresses, start, self.cursor)
     }
 
     #[tactic(auto, unfolding(wild_plan_spec::specs::Steps::section_ended_alone))]
-    fn end_section_alone(&mut self, ground: &Ground<'_>, section: usize) -> Result<(), Fault>
+    fn end_section_alone(
+        &mut self,
+        ground: &Ground<'_>,
+        taken: &Taken,
+        section: usize,
+    ) -> Result<(), Fault>
+        requires { AreTaken (is_floating (shown_ground ground.now)) (known_of self.old.addresses) section (ends_of taken.now) }
         ensures { Moves result self.new (section_ended_alone (shown_ground ground.now) section (state_of self.old)) }
     {
-        match self.overlapped(ground, section) {
+        match self.overlapped(ground, taken, section) {
             None => self.end_section(ground, section),
             Some(other) => Err(overlap(ground, other, section)?),
         }
@@ -381,13 +390,19 @@ impl Walk {
 
     // It ends, unless it leaves its region, or shares an address with an earlier one.
     #[tactic(auto, unfolding(wild_plan_spec::specs::Steps::section_ended_inside))]
-    fn end_section_inside(&mut self, ground: &Ground<'_>, section: usize) -> Result<(), Fault>
+    fn end_section_inside(
+        &mut self,
+        ground: &Ground<'_>,
+        taken: &Taken,
+        section: usize,
+    ) -> Result<(), Fault>
+        requires { AreTaken (is_floating (shown_ground ground.now)) (known_of self.old.addresses) section (ends_of taken.now) }
         ensures { Moves result self.new (section_ended_inside (shown_ground ground.now) section (state_of self.old)) }
     {
         if self.leaves_region(ground, section) {
             return Err(region_full(ground, section)?);
         }
-        self.end_section_alone(ground, section)
+        self.end_section_alone(ground, taken, section)
     }
 
     // The rows of the rest are placed, and the section ends.
@@ -395,27 +410,33 @@ impl Walk {
     fn end_section_after(
         &mut self,
         ground: &Ground<'_>,
+        taken: &Taken,
         rest: &[ChunkRow],
         section: usize,
     ) -> Result<(), Fault>
+        requires { AreTaken (is_floating (shown_ground ground.now)) (known_of self.old.addresses) section (ends_of taken.now) }
         ensures { Moves result self.new (section_ended_after (shown_ground ground.now) rest.now section (state_of self.old)) }
     {
         self.place_chunk(rest)?;
-        self.end_section_inside(ground, section)
+        self.end_section_inside(ground, taken, section)
     }
 
     #[tactic(auto, unfolding(wild_plan_spec::specs::Steps::section_closed))]
     fn close_section(
         &mut self,
         ground: &Ground<'_>,
+        taken: &Taken,
         section: usize,
         rest: Option<Chunk>,
     ) -> Result<(), Fault>
+        requires { AreTaken (is_floating (shown_ground ground.now)) (known_of self.old.addresses) section (ends_of taken.now) }
         ensures { Moves result self.new (section_closed (shown_ground ground.now) section rest (state_of self.old)) }
     {
         match rest {
-            None => self.end_section_inside(ground, section),
-            Some(chunk) => self.end_section_after(ground, ground.chunks.rows(chunk), section),
+            None => self.end_section_inside(ground, taken, section),
+            Some(chunk) => {
+                self.end_section_after(ground, taken, ground.chunks.rows(chunk), section)
+            }
         }
     }
 
@@ -475,9 +496,11 @@ impl Walk {
     fn have_effect(
         &mut self,
         ground: &Ground<'_>,
+        taken: &Taken,
         number: usize,
         place: &Place<'_>,
     ) -> Result<(), Fault>
+        requires { AreTakenBefore (is_floating (shown_ground ground.now)) (known_of self.old.addresses) (shown_place place.now) (ends_of taken.now) }
         ensures { Moves result self.new (effect (shown_ground ground.now) number (shown_place place.now) (state_of self.old)) }
     {
         match *place {
@@ -488,7 +511,7 @@ impl Walk {
             Place::Open(section, _) => self.open_section(ground, number, section),
             Place::Collect(chunk, _) => self.collect_chunk(ground, chunk),
             Place::Rows(chunk) => self.place_chunk(ground.chunks.rows(chunk)),
-            Place::Close(section, rest) => self.close_section(ground, section, rest),
+            Place::Close(section, rest) => self.close_section(ground, taken, section, rest),
             Place::Wait(_, _)
             | Place::Discard(_)
             | Place::Idle
@@ -499,22 +522,32 @@ impl Walk {
     }
 
     #[tactic(auto, unfolding(wild_plan_spec::specs::Steps::step))]
-    fn step(&mut self, ground: &Ground<'_>, number: usize, place: &Place<'_>) -> Result<(), Fault>
+    fn step(
+        &mut self,
+        ground: &Ground<'_>,
+        taken: &Taken,
+        number: usize,
+        place: &Place<'_>,
+    ) -> Result<(), Fault>
+        requires { AreTakenBefore (is_floating (shown_ground ground.now)) (known_of self.old.addresses) (shown_place place.now) (ends_of taken.now) }
         ensures { Moves result self.new (step (shown_ground ground.now) number (shown_place place.now) (state_of self.old)) }
     {
         self.note_dot(number, place)?;
-        self.have_effect(ground, number, place)
+        self.have_effect(ground, taken, number, place)
     }
 }
 
 /// Lays out the places: what stands after the last one, or the fault of the first that refuses.
 pub fn lay_out(ground: &Ground<'_>, places: &[Place<'_>]) -> Result<Walk, Fault>
+    requires { (sections : ℕ) × Nests (Free 0) (shown_places places.now) (Free sections) }
     ensures laid_out { IfOk result (λ walk. Stands (shown_ground ground.now) (shown_places places.now) (length (shown_places places.now)) (state_of walk)) }
     ensures refused { IfErr result (λ f. (f ≡ fault.NoMemory) ⊎ Refuses (shown_ground ground.now) (shown_places places.now) f) }
 {
     let mut walk = Walk::new(ground)?;
+    let mut taken = Taken::new(ground.alloc);
     for (number, place) in places.iter().enumerate() {
-        walk.step(ground, number, place)?;
+        walk.step(ground, &taken, number, place)?;
+        taken.note(ground, &walk.addresses, place)?;
     }
     Ok(walk)
 }

@@ -4,7 +4,6 @@ use Rattle.wild_script_tree.specs.declared.tree.Section.{Section}
 use Rattle.wild_fates.specs.Targets.{targets}
 use Rattle.wild_plan_spec.specs.Facts.{facts_from}
 use Rattle.wild_plan_spec.specs.Fates.{fates_of, section_names}
-use Rattle.wild_plan_spec.specs.Headers.{section_headers}
 use Rattle.wild_plan_spec.specs.Names.{Name}
 use Rattle.wild_plan_spec.specs.Statements.{sections_of}
 use Rattle.wild_plan.specs.Facts.{alignments_in, shown_all}

@@ -1,7 +1,10 @@
 -- The checks, the segments, the walk, the symbols and conditions, and the lists.
-use Rattle.std.proofs.Common.{ap, sym, inl, inr, ⊎_elim, ◌∙◌}
+use Rattle.std.proofs.Common.{length, ap, sym, subst, inl, inr, ⊎_elim, ◌∙◌}
 use Rattle.std.proofs.lemmas.Result.{err_from_is_err_and}
 use Rattle.wild_fates.specs.Shown.{shown_places}
+use Rattle.wild_plan_spec.specs.Fates.{section_names}
+use Rattle.wild_walk_laws.specs.Nesting.{Free, Nests}
+use Rattle.wild_walk_laws.proofs.Nesting.{places_nest}
 use Rattle.wild_plan.specs.Case.{shown_case}
 use Rattle.wild_plan.specs.Facts.{shown_all}
 use Rattle.wild_plan.proofs.Composing.{walk_refused, end_refused, lists_fit}
@@ -10,6 +13,12 @@ use Rattle.wild_plan.proofs.pipeline.script_lists.Goals as goal
 
 pub find_case_segments-requires-clause-facts : goal.find_case_segments-requires-clause-facts
 find_case_segments-requires-clause-facts c = ap shown_all c.as_slice.ensures ∙ c.in_ok-basis.ensures.facts
+
+pub lay_out-requires : goal.lay_out-requires
+lay_out-requires c =
+    let case = shown_case c.args.case.now in
+    let places = ap shown_places c.as_slice-places.ensures ∙ c.in_ok-definitions.ensures.sound.fates.places in
+    (length (section_names case.commands case.inputs), subst (λ ps. Nests (Free 0) ps (Free (length (section_names case.commands case.inputs)))) (sym places) (places_nest case.commands case.inputs))
 
 pub returns-in_err-segments-clause-refused : goal.returns-in_err-segments-clause-refused
 returns-in_err-segments-clause-refused c =
