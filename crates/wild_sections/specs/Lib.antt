@@ -1,0 +1,5 @@
+pub mod Getters
+pub mod Identity
+pub mod Infos
+pub mod Locations
+pub mod Values
