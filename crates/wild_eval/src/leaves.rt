@@ -1,7 +1,7 @@
 //! What an evaluator does without looking into a part.
 
 ghost use Rattle.std.specs.Prelude.{◌≡◌, ◌<◌, ◌≤◌, ◌+◌, max, IfOk};
-ghost use Rattle.wild_eval.specs.Plain as spec;
+ghost use Rattle.wild_eval.specs.Leaves as spec;
 ghost use Rattle.wild_value_spec.specs.Answer.{Gives};
 ghost use Rattle.wild_value_spec.specs.Marks.{max_height};
 ghost use Rattle.wild_value_spec.specs.Value.{multiple_value};
@@ -9,7 +9,7 @@ ghost use Rattle.wild_value_spec.specs.Value.{multiple_value};
 use crate::arithmetic::{holds, truth};
 use crate::checked::{multiple_from, sum};
 use crate::marks::{absolutely, bare, over_both, relatively, unmarked_over};
-use crate::plain::Evaluator;
+use crate::evaluator::Evaluator;
 use wild_base::Fault;
 use wild_expression_tree::Comparison;
 use wild_value_spec::{Point, Value, Whole};

@@ -1,14 +1,15 @@
 //! The symbols that a plan lists: those of the table, and those of the script.
 
-ghost use Rattle.std.specs.Prelude.{◌≡◌, ◌++◌, OnOk, IfOk};
+ghost use Rattle.std.specs.Prelude.{◌≡◌, ◌≢◌, [], ◌++◌, true, OnOk, IfOk};
 ghost use Rattle.std.specs.Option.{option_map, option_to_list};
 ghost use Rattle.wild_eval.specs.Scope.{shown_definition};
 ghost use Rattle.wild_eval.specs.Addresses.{known_of};
 ghost use Rattle.wild_plan_spec.specs.Symbols as spec;
 ghost use Rattle.wild_fates.specs.Shown.{shown_place, shown_places, shown_task};
-ghost use Rattle.wild_plan.specs.End.{known, scope};
+ghost use Rattle.wild_plan.specs.End.{AreDefined, IsDefined, IsPlaceDefined, IsTaskDefined, known, scope};
 ghost use Rattle.wild_plan.specs.Sums.{wrapped_symbol, wrapped_symbols};
 ghost use Rattle.wild_value_spec.specs.Answer.{Returns};
+ghost use Rattle.wild_value_spec.specs.Scope.{definition_of};
 
 use crate::definitions::symbol_chunk;
 use crate::ends::End;
@@ -16,7 +17,7 @@ use crate::points::holder;
 use sqlite_items::Items;
 use std::alloc::{AllocError, Global};
 use wild_base::{Fault, Name, NoMemory};
-use wild_eval::{Addresses, Definition, Path};
+use wild_eval::{Addresses, Definition};
 use wild_fates::{Place, Task};
 use wild_plan_spec::{Chunk, Kept, PlacedSymbol, SymbolRow, Where};
 use wild_script_tree::{Expression, ProvideSymbolDefinition};
@@ -96,32 +97,35 @@ impl End<'_> {
     // An expression has a value, and nothing is listed.
     #[tactic(auto, unfolding(wild_plan_spec::specs::Symbols::unlisted))]
     fn unlisted(
-        &self,
+        &mut self,
         place: usize,
         stand: Where,
         expression: &Expression,
     ) -> Result<Option<PlacedSymbol>, Fault>
-        ensures { Returns result (spec.unlisted (scope self.now) (known self.now) place stand expression.now) }
+        ensures same { self.new ≡ self.old }
+        ensures symbol { Returns result (spec.unlisted (scope self.old) (known self.old) place stand expression.now) }
     {
-        self.full(&Path::Start, place, stand, expression)?;
+        self.full(place, stand, expression)?;
         Ok(None)
     }
 
-    // A symbol with its value, which must not ask for itself.
+    // A symbol with its value, which must not ask for itself. Its expression is the definition that counts.
     #[tactic(auto, unfolding(wild_plan_spec::specs::Symbols::listed_symbol))]
     fn listed_symbol(
-        &self,
+        &mut self,
         place: usize,
         stand: Where,
         name: &Name,
         expression: &Expression,
         hidden: bool,
     ) -> Result<Option<PlacedSymbol>, Fault>
-        ensures { Returns result (spec.listed_symbol (scope self.now) (known self.now) place stand name.now expression.now hidden) }
+        requires { IsDefined (scope self.old) place stand name.now expression.now }
+        ensures same { self.new ≡ self.old }
+        ensures symbol { Returns result (spec.listed_symbol (scope self.old) (known self.old) place stand name.now expression.now hidden) }
     {
-        let address = self.full(&Path::Through(name, &Path::Start), place, stand, expression)?;
+        let address = self.evaluation.symbol(place, name)?;
         Ok(Some(PlacedSymbol {
-            name: name.copy(self.ground.alloc)?,
+            name: name.copy(self.alloc)?,
             address,
             section: holder(stand),
             hidden,
@@ -131,13 +135,15 @@ impl End<'_> {
     // An empty name is not listed.
     #[tactic(auto, using(crate::proofs::Named::assigned_by_name))]
     fn assignment_symbol(
-        &self,
+        &mut self,
         place: usize,
         stand: Where,
         name: &Name,
         expression: &Expression,
     ) -> Result<Option<PlacedSymbol>, Fault>
-        ensures { Returns result (spec.assignment_symbol (scope self.now) (known self.now) place stand name.now expression.now) }
+        requires { name.now ≢ [] → IsDefined (scope self.old) place stand name.now expression.now }
+        ensures same { self.new ≡ self.old }
+        ensures symbol { Returns result (spec.assignment_symbol (scope self.old) (known self.old) place stand name.now expression.now) }
     {
         if name.is_empty() {
             self.unlisted(place, stand, expression)
@@ -148,14 +154,16 @@ impl End<'_> {
 
     // Only where it is the definition that counts.
     fn provide_symbol(
-        &self,
+        &mut self,
         place: usize,
         stand: Where,
         definition: &ProvideSymbolDefinition,
     ) -> Result<Option<PlacedSymbol>, Fault>
-        ensures { Returns result (spec.provide_symbol (scope self.now) (known self.now) place stand definition.now) }
+        requires { spec.is_at place (definition_of (scope self.old) definition.now.name) ≡ true → IsDefined (scope self.old) place stand definition.now.name definition.now.value }
+        ensures same { self.new ≡ self.old }
+        ensures symbol { Returns result (spec.provide_symbol (scope self.old) (known self.old) place stand definition.now) }
     {
-        if is_at(place, self.ground.scope.definition(&definition.name)) {
+        if is_at(place, self.evaluation.definition(&definition.name)) {
             self.listed_symbol(
                 place,
                 stand,
@@ -170,12 +178,14 @@ impl End<'_> {
 
     #[tactic(auto, unfolding(wild_plan_spec::specs::Symbols::task_symbol))]
     fn task_symbol(
-        &self,
+        &mut self,
         place: usize,
         stand: Where,
         task: Task<'_>,
     ) -> Result<Option<PlacedSymbol>, Fault>
-        ensures { Returns result (spec.task_symbol (scope self.now) (known self.now) place stand (shown_task task.entry)) }
+        requires { IsTaskDefined (scope self.old) place stand (shown_task task) }
+        ensures same { self.new ≡ self.old }
+        ensures symbol { Returns result (spec.task_symbol (scope self.old) (known self.old) place stand (shown_task task.entry)) }
     {
         match task {
             Task::Assign(name, expression) => {
@@ -188,8 +198,14 @@ impl End<'_> {
     }
 
     #[tactic(auto, unfolding(wild_plan_spec::specs::Symbols::place_symbol))]
-    fn place_symbol(&self, number: usize, place: &Place<'_>) -> Result<Option<PlacedSymbol>, Fault>
-        ensures { Returns result (spec.place_symbol (scope self.now) (known self.now) number (shown_place place.now)) }
+    fn place_symbol(
+        &mut self,
+        number: usize,
+        place: &Place<'_>,
+    ) -> Result<Option<PlacedSymbol>, Fault>
+        requires { IsPlaceDefined (scope self.old) number (shown_place place.now) }
+        ensures same { self.new ≡ self.old }
+        ensures symbol { Returns result (spec.place_symbol (scope self.old) (known self.old) number (shown_place place.now)) }
     {
         match *place {
             Place::Wait(stand, task) => self.task_symbol(number, stand, task),
@@ -198,10 +214,12 @@ impl End<'_> {
     }
 
     /// The symbols of the places, in text order.
-    pub fn symbols(&self, places: &[Place<'_>]) -> Result<Items<PlacedSymbol>, Fault>
-        ensures { Returns result (spec.symbols (scope self.now) (known self.now) 0 (shown_places places.now)) }
+    pub fn symbols(&mut self, places: &[Place<'_>]) -> Result<Items<PlacedSymbol>, Fault>
+        requires { AreDefined (scope self.old) (shown_places places.now) }
+        ensures same { self.new ≡ self.old }
+        ensures symbols { Returns result (spec.symbols (scope self.old) (known self.old) 0 (shown_places places.now)) }
     {
-        let mut found = Items::new(self.ground.alloc);
+        let mut found = Items::new(self.alloc);
         for (number, place) in places.iter().enumerate() {
             let symbol = self.place_symbol(number, place)?;
             push_listed(&mut found, symbol)?;
