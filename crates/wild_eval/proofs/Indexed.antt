@@ -39,7 +39,7 @@ same_name : (x y : Name) (n i : ℕ) (names : List Name) → position_from (is_n
 same_name x y n i [] h k = absurd (cc)
 same_name x y n i (z ∷ names) h k =
     same_by x y z (is_named x z) (is_named y z) n i (position_from (is_named x) (n + 1) names) (position_from (is_named y) (n + 1) names) ((bytes_eq-Decides z x).0) ((bytes_eq-Decides z y).0)
-      (λ j e. least (is_named x) (n + 1) j names e) (λ j e. least (is_named y) (n + 1) j names e) (λ a b. same_name x y (n + 1) i names a b) h k
+    (λ j e. least (is_named x) (n + 1) j names e) (λ j e. least (is_named y) (n + 1) j names e) (λ a b. same_name x y (n + 1) i names a b) h k
 
 pub indexed : (scope : Scope) → IsIndexed (scope_of scope)
 indexed scope x y i h k = same_name x y 0 i scope.symbols.now h k

@@ -23,13 +23,13 @@ module _ (slots : BTreeMap ℕ Slot) (count : ℕ) where
   pub listed_empty : ((i : ℕ) → slot_in slots i ≡ Unseen) → listed_slots slots count ≡ replicate count Unseen
   listed_empty none = ext_get_or Unseen (listed_slots slots count) (replicate count Unseen) (listed_length ∙ sym (length-replicate count Unseen))
       (λ i h. let low : i < count = subst (λ n. i < n) listed_length h in
-          listed_within i low ∙ none i ∙ sym (get_or-replicate count i Unseen Unseen low))
+      listed_within i low ∙ none i ∙ sym (get_or-replicate count i Unseen Unseen low))
 
 module _ (old new : BTreeMap ℕ Slot) (count : ℕ) where
   pub listed_same : ((i : ℕ) → slot_in new i ≡ slot_in old i) → listed_slots new count ≡ listed_slots old count
   listed_same same = ext_get_or Unseen (listed_slots new count) (listed_slots old count) (listed_length new count ∙ sym (listed_length old count))
       (λ i h. let low : i < count = subst (λ n. i < n) (listed_length new count) h in
-          listed_within new count i low ∙ same i ∙ sym (listed_within old count i low))
+      listed_within new count i low ∙ same i ∙ sym (listed_within old count i low))
 
   module _ (number : ℕ) (slot : Slot) (put : (i : ℕ) → slot_in new i ≡ (if number == i then slot else slot_in old i)) where
     put_same : (i : ℕ) → (number == i) ≡ true → slot_in new i ≡ slot
@@ -47,4 +47,4 @@ module _ (old new : BTreeMap ℕ Slot) (count : ℕ) where
     pub listed_marked : listed_slots new count ≡ set (listed_slots old count) number slot
     listed_marked = ext_get_or Unseen (listed_slots new count) (set (listed_slots old count) number slot) (listed_length new count ∙ sym (length-set (listed_slots old count) number slot ∙ listed_length old count))
         (λ i h. let low : i < count = subst (λ n. i < n) (listed_length new count) h in
-            listed_within new count i low ∙ marked_at i low (eqb_tells number i))
+        listed_within new count i low ∙ marked_at i low (eqb_tells number i))

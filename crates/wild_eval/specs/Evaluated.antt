@@ -17,11 +17,6 @@ use Rattle.wild_memo_laws.specs.Sound.{Grows, IsSound, newly, unseen, whole}
 use Rattle.wild_eval.specs.declared.evaluator.Evaluator.{Evaluator}
 use Rattle.wild_eval.specs.Leaves.{known, scope}
 
--- what all is evaluated over: what a script and its table say, and what is known of the layout
-pub record Setting : Type 0 where
-  pub scope : Scope
-  pub known : Known
-
 -- a memo of what a scope defines: there is a slot for each definition, what is kept is right, and nothing is in work
 abbrev pub IsMemoOf : Scope → Known → List Slot → Type 0
 IsMemoOf scope known slots = IsSound scope known [] slots

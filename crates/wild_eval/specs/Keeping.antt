@@ -1,5 +1,5 @@
 -- Evaluation that keeps what it finds, at an evaluator's scope, statement and addresses.
-use Rattle.std.specs.Prelude.{◌≡◌, ◌⊎◌, ◌≤◌, ℕ, ◌+◌, List, slice_get, Option, Some, None, Result, Ok, Err}
+use Rattle.std.specs.Prelude.{◌≡◌, ◌⊎◌, ℕ, List, slice_get, Option, Some, None, Result, Ok, Err}
 use Rattle.wild_names.specs.declared.fault.Fault.{Fault}
 use Rattle.wild_names.specs.declared.fault.Fault.TheVariants.{NoMemory}
 use Rattle.wild_names.specs.declared.segment_name.SegmentName.{SegmentName}
@@ -18,7 +18,7 @@ use Rattle.wild_memo_laws.specs.declared.slot.Slot.{Slot}
 use Rattle.wild_memo_laws.specs.Memo as machine
 use Rattle.wild_memo_laws.specs.Nodes.{nodes}
 use Rattle.wild_memo_laws.specs.Running.{State, Ran, give}
-use Rattle.wild_memo_laws.specs.Sound.{Grows, IsSound, unseen}
+use Rattle.wild_memo_laws.specs.Sound.{Stopped}
 use Rattle.wild_eval.specs.declared.evaluator.Evaluator.{Evaluator}
 use Rattle.wild_eval.specs.Leaves.{known, scope}
 
@@ -26,29 +26,11 @@ use Rattle.wild_eval.specs.Leaves.{known, scope}
 abbrev pub kept : List Slot → ℕ → State
 kept slots ticks = record { slots = slots; ticks = ticks }
 
--- what a function returned, and what it left kept and counted, is what ran, unless memory ran out
-abbrev pub Runs : {Y : Type 0} → Result Y Fault → State → Ran Y → Type 0
-Runs (Ok x) s ran = ran ≡ give (Ok x) s
-Runs (Err f) s ran = (f ≡ NoMemory) ⊎ (ran ≡ give (Err f) s)
-
--- ---- where memory ran out
-
--- work along a path, on what has so many nodes, was given up: what is kept is right, what was kept is, and what is counted is
--- bounded
-pub record GivesUp (v : Evaluator) (path : List Name) (cost : ℕ) (s t : State) : Type 0 where
-  pub sound : IsSound (scope v) (known v) path t.slots
-  pub grows : Grows (scope v) s.slots t.slots
-  pub rises : s.ticks ≤ t.ticks
-  pub most : t.ticks ≤ s.ticks + unseen (scope v).definitions s.slots + cost
-
--- the same along each path along which what was kept was right
-abbrev pub Stopped : Evaluator → ℕ → State → State → Type 0
-Stopped v cost s t = (path : List Name) → IsSound (scope v) (known v) path s.slots → GivesUp v path cost s t
-
--- where a function failed by want of memory, it was stopped
-abbrev pub Stops : {Y : Type 0} → Evaluator → ℕ → Result Y Fault → State → State → Type 0
-Stops v cost (Ok x) s t = Unit {0}
-Stops v cost (Err f) s t = f ≡ NoMemory → Stopped v cost s t
+-- on work on what has so many nodes: what a function returned, and what it left kept and counted, is what ran; where memory
+-- ran out it was given up
+abbrev pub Runs : {Y : Type 0} → Evaluator → ℕ → Result Y Fault → State → State → Ran Y → Type 0
+Runs v cost (Ok x) s t ran = ran ≡ give (Ok x) t
+Runs v cost (Err f) s t ran = ((f ≡ NoMemory) × Stopped (scope v) (known v) cost s t) ⊎ (ran ≡ give (Err f) t)
 
 -- the nodes of an expression that may be left out
 abbrev pub held_nodes : Option Expression → ℕ

@@ -1,10 +1,8 @@
 //! Evaluators of a statement.
 
 ghost use Rattle.std.specs.Prelude.{◌≡◌, [], ◌∷◌, Some};
-ghost use Rattle.wild_eval.specs.Addresses.{known_of};
 ghost use Rattle.wild_eval.specs.Evaluated.{IsMemo, plain_full, plain_statement};
 ghost use Rattle.wild_eval.specs.Leaves.{known, scope};
-ghost use Rattle.wild_eval.specs.Scope.{scope_of};
 ghost use Rattle.wild_expression_tree.specs.declared.tree.Expression as tree;
 ghost use Rattle.wild_value_spec.specs.declared.value.Point as place;
 ghost use Rattle.wild_value_spec.specs.Answer.{Returns};
@@ -40,16 +38,41 @@ impl Evaluator<'_> {
     }
 
     /// The number that an expression stands for at a point.
-    pub fn full(&self, expression: &Expression, point: Point) -> Result<u64, Fault>
-        ensures { Returns result (full_value (scope_of self.now.scope.now) self.now.statement (known_of self.now.addresses.now) [] expression.now point) }
+    pub fn full(&self, memo: &mut Memo, expression: &Expression, point: Point) -> Result<u64, Fault>
+        requires { IsMemo self.now memo.old }
+        ensures memo { IsMemo self.now memo.new }
+        ensures answer { Returns result (plain_full self.now expression.now point) }
     {
-        self.full_apart::<Brand>(&mut self.memo(), Blank::new(1), expression, point)
+        self.full_apart::<Brand>(memo, Blank::new(1), expression, point)
     }
 
-    // ---- with steps of a ledger of its own, which nobody reads
+    /// The number that a symbol stands for, which the script defines by an expression at a point.
+    pub fn symbol_number(&self, memo: &mut Memo, name: &Name) -> Result<u64, Fault>
+        requires { IsMemo self.now memo.old }
+        ensures memo { IsMemo self.now memo.new }
+        ensures answer { (e : tree.Expression) (p : place.Point) → definition_of (scope self.now) name.now ≡ Some (OfScript e p)
+            → Returns result (full_value (scope self.now) self.now.statement (known self.now) (name.now ∷ []) e p) }
+    {
+        self.symbol_apart::<Brand>(memo, Blank::new(1), name)
+    }
 
-    /// The number that an expression stands for at a point.
-    pub(crate) fn full_apart<L: Ledger>(
+    /// What an ASSERT statement is worth at a point. Fails where its condition is 0.
+    pub fn check(
+        &self,
+        memo: &mut Memo,
+        command: &AssertCommand,
+        point: Point,
+    ) -> Result<Value, Fault>
+        requires { IsMemo self.now memo.old }
+        ensures memo { IsMemo self.now memo.new }
+        ensures answer { Returns result (plain_statement self.now command.now point) }
+    {
+        self.check_apart::<Brand>(memo, Blank::new(1), command, point)
+    }
+
+    // ---- the same, with steps of a ledger of its own, which nobody reads
+
+    fn full_apart<L: Ledger>(
         &self,
         memo: &mut Memo,
         blank: Blank,
@@ -67,8 +90,7 @@ impl Evaluator<'_> {
         self.evaluate_early_expression(memo, &mut steps, expression, point)
     }
 
-    /// The number that a symbol stands for.
-    pub(crate) fn symbol_apart<L: Ledger>(
+    fn symbol_apart<L: Ledger>(
         &self,
         memo: &mut Memo,
         blank: Blank,
@@ -90,8 +112,7 @@ impl Evaluator<'_> {
         Ok(whole.number)
     }
 
-    /// What an ASSERT statement is worth at a point.
-    pub(crate) fn check_apart<L: Ledger>(
+    fn check_apart<L: Ledger>(
         &self,
         memo: &mut Memo,
         blank: Blank,

@@ -2,7 +2,7 @@
 
 ghost use Rattle.std.specs.Prelude.{◌≡◌, ◌<◌, ◌≤◌, ◌+◌, IfOk, IfErr, Ok, Some, set};
 ghost use Rattle.wild_eval.specs.Keeping as spec;
-ghost use Rattle.wild_eval.specs.Keeping.{Runs, Stops, kept};
+ghost use Rattle.wild_eval.specs.Keeping.{Runs, kept};
 ghost use Rattle.wild_eval.specs.Leaves.{scope};
 ghost use Rattle.wild_eval.specs.Scope.{shown_definition};
 ghost use Rattle.wild_expression_tree.specs.Shape as shape;
@@ -101,8 +101,7 @@ impl Evaluator<'_> {
         point: Point,
     ) -> Result<Value, Fault>
         requires { levels ≤ max_height }
-        ensures value { Runs result (kept memo.new steps.new) (spec.value self.now levels expression.now point (kept memo.old steps.old)) }
-        ensures stopped { Stops self.now (nodes expression.now) result (kept memo.old steps.old) (kept memo.new steps.new) }
+        ensures value { Runs self.now (nodes expression.now) result (kept memo.old steps.old) (kept memo.new steps.new) (spec.value self.now levels expression.now point (kept memo.old steps.old)) }
         ensures height { IfOk result (λ v. v.height ≤ levels) }
     {
         if levels == 0 {
@@ -124,8 +123,7 @@ impl Evaluator<'_> {
         point: Point,
     ) -> Result<Value, Fault>
         requires { levels < max_height }
-        ensures value { Runs result (kept memo.new steps.new) (spec.node self.now levels tree.now point (kept memo.old steps.old)) }
-        ensures stopped { Stops self.now (part_nodes (shape.shape tree.now)) result (kept memo.old steps.old) (kept memo.new steps.new) }
+        ensures value { Runs self.now (part_nodes (shape.shape tree.now)) result (kept memo.old steps.old) (kept memo.new steps.new) (spec.node self.now levels tree.now point (kept memo.old steps.old)) }
         ensures height { IfOk result (λ v. v.height ≤ levels + 1) }
     {
         match tree.shape() {
@@ -170,8 +168,7 @@ impl Evaluator<'_> {
         point: Point,
     ) -> Result<Value, Fault>
         requires { levels < max_height }
-        ensures value { Runs result (kept memo.new steps.new) (spec.arithmetic_value self.now levels operator a.now b.now point (kept memo.old steps.old)) }
-        ensures stopped { Stops self.now (part_nodes (shape.Shape.Arithmetic operator a.now b.now)) result (kept memo.old steps.old) (kept memo.new steps.new) }
+        ensures value { Runs self.now (part_nodes (shape.Shape.Arithmetic operator a.now b.now)) result (kept memo.old steps.old) (kept memo.new steps.new) (spec.arithmetic_value self.now levels operator a.now b.now point (kept memo.old steps.old)) }
         ensures height { IfOk result (λ v. v.height ≤ levels + 1) }
     {
         let x = self.value(memo, steps, levels, a, point)?;
@@ -193,8 +190,7 @@ impl Evaluator<'_> {
         point: Point,
     ) -> Result<Value, Fault>
         requires { levels < max_height }
-        ensures value { Runs result (kept memo.new steps.new) (spec.division_value self.now levels operator a.now b.now point (kept memo.old steps.old)) }
-        ensures stopped { Stops self.now (part_nodes (shape.Shape.Division operator a.now b.now)) result (kept memo.old steps.old) (kept memo.new steps.new) }
+        ensures value { Runs self.now (part_nodes (shape.Shape.Division operator a.now b.now)) result (kept memo.old steps.old) (kept memo.new steps.new) (spec.division_value self.now levels operator a.now b.now point (kept memo.old steps.old)) }
         ensures height { IfOk result (λ v. v.height ≤ levels + 1) }
     {
         let y = self.value(memo, steps, levels, b, point)?;
@@ -219,8 +215,7 @@ impl Evaluator<'_> {
         point: Point,
     ) -> Result<Value, Fault>
         requires { levels < max_height }
-        ensures value { Runs result (kept memo.new steps.new) (spec.comparison_value self.now levels comparison a.now b.now point (kept memo.old steps.old)) }
-        ensures stopped { Stops self.now (part_nodes (shape.Shape.Comparison comparison a.now b.now)) result (kept memo.old steps.old) (kept memo.new steps.new) }
+        ensures value { Runs self.now (part_nodes (shape.Shape.Comparison comparison a.now b.now)) result (kept memo.old steps.old) (kept memo.new steps.new) (spec.comparison_value self.now levels comparison a.now b.now point (kept memo.old steps.old)) }
         ensures height { IfOk result (λ v. v.height ≤ levels + 1) }
     {
         let x = self.value(memo, steps, levels, a, point)?;
@@ -243,8 +238,7 @@ impl Evaluator<'_> {
         point: Point,
     ) -> Result<Value, Fault>
         requires { levels < max_height }
-        ensures value { Runs result (kept memo.new steps.new) (spec.connective_value self.now levels operator a.now b.now point (kept memo.old steps.old)) }
-        ensures stopped { Stops self.now (part_nodes (shape.Shape.Connective operator a.now b.now)) result (kept memo.old steps.old) (kept memo.new steps.new) }
+        ensures value { Runs self.now (part_nodes (shape.Shape.Connective operator a.now b.now)) result (kept memo.old steps.old) (kept memo.new steps.new) (spec.connective_value self.now levels operator a.now b.now point (kept memo.old steps.old)) }
         ensures height { IfOk result (λ v. v.height ≤ levels + 1) }
     {
         let x = self.value(memo, steps, levels, a, point)?;
@@ -268,8 +262,7 @@ impl Evaluator<'_> {
         point: Point,
     ) -> Result<Value, Fault>
         requires { levels < max_height }
-        ensures value { Runs result (kept memo.new steps.new) (spec.unary_value self.now levels operator a.now point (kept memo.old steps.old)) }
-        ensures stopped { Stops self.now (part_nodes (shape.Shape.Unary operator a.now)) result (kept memo.old steps.old) (kept memo.new steps.new) }
+        ensures value { Runs self.now (part_nodes (shape.Shape.Unary operator a.now)) result (kept memo.old steps.old) (kept memo.new steps.new) (spec.unary_value self.now levels operator a.now point (kept memo.old steps.old)) }
         ensures height { IfOk result (λ v. v.height ≤ levels + 1) }
     {
         let x = self.value(memo, steps, levels, a, point)?;
@@ -290,8 +283,7 @@ impl Evaluator<'_> {
         point: Point,
     ) -> Result<Value, Fault>
         requires { levels < max_height }
-        ensures value { Runs result (kept memo.new steps.new) (spec.ternary_value self.now levels condition.now a.now b.now point (kept memo.old steps.old)) }
-        ensures stopped { Stops self.now (part_nodes (shape.Ternary condition.now a.now b.now)) result (kept memo.old steps.old) (kept memo.new steps.new) }
+        ensures value { Runs self.now (part_nodes (shape.Ternary condition.now a.now b.now)) result (kept memo.old steps.old) (kept memo.new steps.new) (spec.ternary_value self.now levels condition.now a.now b.now point (kept memo.old steps.old)) }
         ensures height { IfOk result (λ v. v.height ≤ levels + 1) }
     {
         let x = self.value(memo, steps, levels, condition, point)?;
@@ -312,8 +304,7 @@ impl Evaluator<'_> {
         point: Point,
     ) -> Result<Value, Fault>
         requires { levels < max_height }
-        ensures value { Runs result (kept memo.new steps.new) (spec.align_value self.now levels alignment.now (shape.seen_held held.entry) point (kept memo.old steps.old)) }
-        ensures stopped { Stops self.now (part_nodes (shape.Align alignment.now (shape.seen_held held.entry))) result (kept memo.old steps.old) (kept memo.new steps.new) }
+        ensures value { Runs self.now (part_nodes (shape.Align alignment.now (shape.seen_held held.entry))) result (kept memo.old steps.old) (kept memo.new steps.new) (spec.align_value self.now levels alignment.now (shape.seen_held held.entry) point (kept memo.old steps.old)) }
         ensures height { IfOk result (λ v. v.height ≤ levels + 1) }
     {
         let x = self.value(memo, steps, levels, alignment, point)?;
@@ -337,8 +328,7 @@ impl Evaluator<'_> {
         point: Point,
     ) -> Result<Value, Fault>
         requires { levels < max_height }
-        ensures value { Runs result (kept memo.new steps.new) (spec.subject self.now levels (shape.seen_held held.entry) point (kept memo.old steps.old)) }
-        ensures stopped { Stops self.now (spec.held_nodes (shape.seen_held held.entry)) result (kept memo.old steps.old) (kept memo.new steps.new) }
+        ensures value { Runs self.now (spec.held_nodes (shape.seen_held held.entry)) result (kept memo.old steps.old) (kept memo.new steps.new) (spec.subject self.now levels (shape.seen_held held.entry) point (kept memo.old steps.old)) }
         ensures height { IfOk result (λ v. v.height ≤ levels) }
     {
         match held {
@@ -360,8 +350,7 @@ impl Evaluator<'_> {
         point: Point,
     ) -> Result<Value, Fault>
         requires { levels < max_height }
-        ensures value { Runs result (kept memo.new steps.new) (spec.segment_value self.now levels segment default.now point (kept memo.old steps.old)) }
-        ensures stopped { Stops self.now (part_nodes (shape.SegmentStart segment default.now)) result (kept memo.old steps.old) (kept memo.new steps.new) }
+        ensures value { Runs self.now (part_nodes (shape.SegmentStart segment default.now)) result (kept memo.old steps.old) (kept memo.new steps.new) (spec.segment_value self.now levels segment default.now point (kept memo.old steps.old)) }
         ensures height { IfOk result (λ v. v.height ≤ levels + 1) }
     {
         match self.scope.segment_start(segment) {
@@ -385,8 +374,7 @@ impl Evaluator<'_> {
         point: Point,
     ) -> Result<Value, Fault>
         requires { levels < max_height }
-        ensures value { Runs result (kept memo.new steps.new) (spec.assert_value self.now levels command.now.expression command.now.message command.now.at point (kept memo.old steps.old)) }
-        ensures stopped { Stops self.now (part_nodes (shape.Assert command.now.expression command.now.message command.now.at)) result (kept memo.old steps.old) (kept memo.new steps.new) }
+        ensures value { Runs self.now (part_nodes (shape.Assert command.now.expression command.now.message command.now.at)) result (kept memo.old steps.old) (kept memo.new steps.new) (spec.assert_value self.now levels command.now.expression command.now.message command.now.at point (kept memo.old steps.old)) }
         ensures height { IfOk result (λ v. v.height ≤ levels + 1) }
     {
         let condition = self.value(memo, steps, levels, command.expression.get(), point)?;
@@ -410,8 +398,7 @@ impl Evaluator<'_> {
         point: Point,
     ) -> Result<Value, Fault>
         requires { levels < max_height }
-        ensures value { Runs result (kept memo.new steps.new) (spec.symbol self.now levels name.now point (kept memo.old steps.old)) }
-        ensures stopped { Stops self.now 0 result (kept memo.old steps.old) (kept memo.new steps.new) }
+        ensures value { Runs self.now 0 result (kept memo.old steps.old) (kept memo.new steps.new) (spec.symbol self.now levels name.now point (kept memo.old steps.old)) }
         ensures height { IfOk result (λ v. v.height ≤ levels + 1) }
     {
         match self.scope.symbols.get(name) {
@@ -433,8 +420,7 @@ impl Evaluator<'_> {
     ) -> Result<Value, Fault>
         requires levels { levels < max_height }
         requires numbered { (scope self.now).symbol name.now ≡ Some number }
-        ensures value { Runs result (kept memo.new steps.new) (spec.symbol_at self.now levels name.now number point (kept memo.old steps.old)) }
-        ensures stopped { Stops self.now 0 result (kept memo.old steps.old) (kept memo.new steps.new) }
+        ensures value { Runs self.now 0 result (kept memo.old steps.old) (kept memo.new steps.new) (spec.symbol_at self.now levels name.now number point (kept memo.old steps.old)) }
         ensures height { IfOk result (λ v. v.height ≤ levels + 1) }
     {
         match self.scope.definition_at(number) {
@@ -460,8 +446,8 @@ impl Evaluator<'_> {
     ) -> Result<Whole, Fault>
         requires levels { levels ≤ max_height }
         requires defined { IsDefined (scope self.now) name.now number (shown_definition definition) }
-        ensures value { Runs result (kept memo.new steps.new) (spec.whole self.now levels name.now number (shown_definition definition.entry) (kept memo.old steps.old)) }
-        ensures stopped { Stops self.now 0 result (kept memo.old steps.old) (kept memo.new steps.new) }
+        ensures value { Runs self.now 0 result (kept memo.old steps.old) (kept memo.new steps.new) (spec.whole self.now levels name.now number (shown_definition definition.entry) (kept memo.old steps.old)) }
+        ensures still { (w : Whole) → slot_at number memo.old ≡ Kept w → steps.new ≡ steps.old }
         ensures height { IfOk result (λ w. w.height ≤ levels) }
     {
         match memo.at(number) {
@@ -486,8 +472,7 @@ impl Evaluator<'_> {
         requires levels { levels ≤ max_height }
         requires defined { IsDefined (scope self.now) name.now number (shown_definition definition) }
         requires unseen { slot_at number memo.old ≡ Unseen }
-        ensures value { Runs result (kept memo.new steps.new) (spec.worked self.now levels name.now number (shown_definition definition.entry) (kept memo.old steps.old)) }
-        ensures stopped { Stops self.now 0 result (kept memo.old steps.old) (kept memo.new steps.new) }
+        ensures value { Runs self.now 0 result (kept memo.old steps.old) (kept memo.new steps.new) (spec.worked self.now levels name.now number (shown_definition definition.entry) (kept memo.old steps.old)) }
         ensures height { IfOk result (λ w. w.height ≤ levels) }
     {
         memo.mark(number, Slot::InWork)?;
@@ -506,8 +491,7 @@ impl Evaluator<'_> {
         definition: Definition<'_>,
     ) -> Result<Whole, Fault>
         requires { levels ≤ max_height }
-        ensures value { Runs result (kept memo.new steps.new) (spec.found self.now levels name.now (shown_definition definition.entry) (kept memo.old steps.old)) }
-        ensures stopped { Stops self.now (definition_nodes (shown_definition definition.entry)) result (kept memo.old steps.old) (kept memo.new steps.new) }
+        ensures value { Runs self.now (definition_nodes (shown_definition definition.entry)) result (kept memo.old steps.old) (kept memo.new steps.new) (spec.found self.now levels name.now (shown_definition definition.entry) (kept memo.old steps.old)) }
         ensures height { IfOk result (λ w. w.height ≤ levels) }
     {
         match definition {

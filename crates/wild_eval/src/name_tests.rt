@@ -157,11 +157,7 @@ fn height<L: Ledger>(
     Ok(value.height as u64)
 }
 
-fn test(
-    evaluator: &Evaluator<'_>,
-    command: &AssertCommand,
-    point: Point,
-) -> Result<u64, Fault> {
+fn test(evaluator: &Evaluator<'_>, command: &AssertCommand, point: Point) -> Result<u64, Fault> {
     let mut evaluation = Evaluation::new(evaluator.alloc, evaluator.scope, evaluator.addresses);
     let value = evaluation.check(evaluator.statement, command, point)?;
     Ok(value.number)
@@ -178,7 +174,13 @@ fn answer(
     let found = match question {
         Question::Full => evaluator.full(tree.get(), point),
         Question::Height(levels) => {
-            height::<Brand>(evaluator, levels.min(1024), tree.get(), point, Blank::new(1))
+            height::<Brand>(
+                evaluator,
+                levels.min(1024),
+                tree.get(),
+                point,
+                Blank::new(1),
+            )
         }
         Question::Test => test(evaluator, &command(alloc, tree)?, point),
     };

@@ -8,8 +8,8 @@ ghost use Rattle.wild_value_spec.specs.Marks.{max_height};
 
 use crate::arithmetic::truth;
 use crate::checked::sum;
-use crate::marks::{absolutely, absolutely_over, relatively_over, unmarked};
 use crate::evaluator::Evaluator;
+use crate::marks::{absolutely, absolutely_over, relatively_over, unmarked};
 use wild_base::{Fault, Name};
 use wild_expression_tree::{AssertCommand, Question};
 use wild_value_spec::{Point, Value, Whole};

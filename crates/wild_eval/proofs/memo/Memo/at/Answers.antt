@@ -11,9 +11,9 @@ returns-then-number-self c =
 pub returns-in-Some : goal.returns-in-Some
 returns-in-Some c =
     rw (← c.self.view_is) (ap (λ o. unwrap_or o Unseen) c.in-Some.ensures.value
-        ∙ sym (listed_within c.self.inside.slots c.self.inside.count c.args.number (omega (arith, c.if-number-self.false))))
+    ∙ sym (listed_within c.self.inside.slots c.self.inside.count c.args.number (omega (arith, c.if-number-self.false))))
 
 pub returns-in-None : goal.returns-in-None
 returns-in-None c =
     rw (← c.self.view_is) (ap (λ o. unwrap_or o Unseen) c.in-None.ensures.value
-        ∙ sym (listed_within c.self.inside.slots c.self.inside.count c.args.number (omega (arith, c.if-number-self.false))))
+    ∙ sym (listed_within c.self.inside.slots c.self.inside.count c.args.number (omega (arith, c.if-number-self.false))))
