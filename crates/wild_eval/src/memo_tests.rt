@@ -1,4 +1,4 @@
-use crate::{Addresses, Definition, Evaluation, Scope, SymbolEntry};
+use crate::{Addresses, Definition, Evaluator, Memo, Scope, SymbolEntry};
 use sqlite_items::Boxed;
 use std::alloc::Global;
 use std::test::Fail;
@@ -116,11 +116,12 @@ fn asked_tree(alloc: Global, asked: Asked) -> Result<Tree, NoMemory> {
 
 fn answer(
     alloc: Global,
-    evaluation: &mut Evaluation<'_>,
+    evaluator: &Evaluator<'_>,
+    memo: &mut Memo,
     asked: Asked,
 ) -> Result<Result<u64, u32>, NoMemory> {
     let tree = asked_tree(alloc, asked)?;
-    match evaluation.full(7, tree.get(), OUTSIDE) {
+    match evaluator.full(memo, tree.get(), OUTSIDE) {
         Ok(number) => Ok(Ok(number)),
         Err(fault) => Ok(Err(fault.number())),
     }
@@ -152,9 +153,15 @@ fn ask(
         header_size: 0,
     };
     let addresses = Addresses::new(alloc);
-    let mut evaluation = Evaluation::new(alloc, &scope, &addresses);
-    let one = answer(alloc, &mut evaluation, one)?;
-    let two = answer(alloc, &mut evaluation, two)?;
+    let evaluator = Evaluator {
+        alloc,
+        scope: &scope,
+        addresses: &addresses,
+        statement: 7,
+    };
+    let mut memo = evaluator.memo();
+    let one = answer(alloc, &evaluator, &mut memo, one)?;
+    let two = answer(alloc, &evaluator, &mut memo, two)?;
     Ok((one, two))
 }
 

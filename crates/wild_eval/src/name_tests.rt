@@ -1,7 +1,7 @@
 ghost use Rattle.std.specs.Prelude.{◌≡◌, ◌≤◌};
 ghost use Rattle.wild_value_spec.specs.Marks.{max_height};
 
-use crate::{Addresses, Definition, Evaluation, Evaluator, Scope, SymbolEntry};
+use crate::{Addresses, Definition, Evaluator, Scope, SymbolEntry};
 use sqlite_items::Boxed;
 use std::alloc::Global;
 use std::marker::Brand;
@@ -158,8 +158,7 @@ fn height<L: Ledger>(
 }
 
 fn test(evaluator: &Evaluator<'_>, command: &AssertCommand, point: Point) -> Result<u64, Fault> {
-    let mut evaluation = Evaluation::new(evaluator.alloc, evaluator.scope, evaluator.addresses);
-    let value = evaluation.check(evaluator.statement, command, point)?;
+    let value = evaluator.check(&mut evaluator.memo(), command, point)?;
     Ok(value.number)
 }
 
@@ -172,7 +171,7 @@ fn answer(
 ) -> Result<Result<u64, u32>, NoMemory> {
     let tree = tree(alloc, sample)?;
     let found = match question {
-        Question::Full => evaluator.full(tree.get(), point),
+        Question::Full => evaluator.full(&mut evaluator.memo(), tree.get(), point),
         Question::Height(levels) => {
             height::<Brand>(
                 evaluator,

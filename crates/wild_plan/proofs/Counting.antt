@@ -57,7 +57,7 @@ first_counts : (name : Name) (es : List SymbolEntry) → definition_at (definiti
 first_counts name [] = refl
 first_counts name (e ∷ es) =
     counts_by (is_named name e.name) e.definition (definitions_in es) (position_from (is_named name) (0 + 1) (entry_names es)) (first name es)
-      (ap (definition_at (e.definition ∷ definitions_in es)) (shift (is_named name) 0 (entry_names es)) ∙ behind e.definition (definitions_in es) (number_of name (entry_names es)) ∙ first_counts name es)
+    (ap (definition_at (e.definition ∷ definitions_in es)) (shift (is_named name) 0 (entry_names es)) ∙ behind e.definition (definitions_in es) (number_of name (entry_names es)) ∙ first_counts name es)
 
 first_left_by : (b : Bool) (c d : Definition) (o q : Option Definition) → (o ≡ Some d → q ≡ Some d) → cond b (Some c) o ≡ Some d → cond b (Some c) q ≡ Some d
 first_left_by true c d o q h e = e
@@ -122,18 +122,18 @@ module _ (name : Name) (d : Definition) where
   not_earlier earlier (e ∷ es) h (inr later) =
       let p = head_passes (list_any (is_named e.name) earlier) (DuplicateSymbol e.name) (name_checks DuplicateSymbol (earlier ++ e.name ∷ []) (entry_names es)) h in
       (or_false (list_any (is_named name) earlier) (list_any (is_named name) (e.name ∷ []))
-        (sym (list_any-append (is_named name) earlier (e.name ∷ [])) ∙ not_earlier (earlier ++ e.name ∷ []) es p.1 later)).0
+      (sym (list_any-append (is_named name) earlier (e.name ∷ [])) ∙ not_earlier (earlier ++ e.name ∷ []) es p.1 later)).0
 
   -- where no two have the same name, each is the first of its name
   distinct_first : (earlier : List Name) (es : List SymbolEntry) → failing (name_checks DuplicateSymbol earlier (entry_names es)) ≡ None → Has entry es → first name es ≡ Some d
   distinct_first earlier [] h k = absurd k
   distinct_first earlier (e ∷ es) h (inl same) =
       subst (λ (x : SymbolEntry). cond (is_named name x.name) (Some x.definition) (first name es) ≡ Some d) (sym same)
-        (ap (λ b. cond b (Some d) (first name es)) ((bytes_eq-Decides name name).1 refl))
+      (ap (λ b. cond b (Some d) (first name es)) ((bytes_eq-Decides name name).1 refl))
   distinct_first earlier (e ∷ es) h (inr later) =
       let p = head_passes (list_any (is_named e.name) earlier) (DuplicateSymbol e.name) (name_checks DuplicateSymbol (earlier ++ e.name ∷ []) (entry_names es)) h in
       let apart = or_false (list_any (is_named name) earlier) (list_any (is_named name) (e.name ∷ []))
-            (sym (list_any-append (is_named name) earlier (e.name ∷ [])) ∙ not_earlier (earlier ++ e.name ∷ []) es p.1 later) in
+      (sym (list_any-append (is_named name) earlier (e.name ∷ [])) ∙ not_earlier (earlier ++ e.name ∷ []) es p.1 later) in
       let other = or_false (is_named name e.name) false apart.1 in
       ap (λ b. cond b (Some e.definition) (first name es)) other.0 ∙ distinct_first (earlier ++ e.name ∷ []) es p.1 later
 
@@ -239,7 +239,7 @@ module _ (c : Case) where
       let has = has_right _ (table_entries (fates_of c.commands c.inputs) c.inputs.symbols) (assigned_entries 0 places) (assigned_has 0 places i w name e there named) in
       let z : 0 + i ≡ i = omega arith in
       first_counts name (entries_of c) ∙ first_left name (OfScript e (task_point i w e)) firm (provided_entries 0 places)
-        (rw (← z) (distinct_first name (OfScript e (task_point (0 + i) w e)) [] firm checked has))
+      (rw (← z) (distinct_first name (OfScript e (task_point (0 + i) w e)) [] firm checked has))
 
   module _ (i : ℕ) (w : Where) (d : ProvideSymbolDefinition) (there : slice_get places i ≡ Some (Wait w (Provide d))) where
     not_assigned : (a : Expression) (q : Point) → q.place ≡ i → Assigned 0 places (OfScript a q) → ⊥
@@ -263,8 +263,8 @@ module _ (c : Case) where
     said_by : (n : Name) (a : Expression) (q : Point) → q.place ≡ i → Has (record { name = n; definition = OfScript a q }) (entries_of c) → OfScript a q ≡ OfScript d.value (task_point i w d.value)
     said_by n a q place h = ⊎_elim
         (λ k. ⊎_elim (λ r. absurd (row_said n (fates_of c.commands c.inputs) c.inputs.symbols (OfScript a q) r))
-            (λ r. absurd (not_assigned a q place (assigned_said n 0 places (OfScript a q) r)))
-            (has_either (record { name = n; definition = OfScript a q }) (table_entries (fates_of c.commands c.inputs) c.inputs.symbols) (assigned_entries 0 places) k))
+        (λ r. absurd (not_assigned a q place (assigned_said n 0 places (OfScript a q) r)))
+        (has_either (record { name = n; definition = OfScript a q }) (table_entries (fates_of c.commands c.inputs) c.inputs.symbols) (assigned_entries 0 places) k))
         (λ k. is_provided a q place (provided_said n 0 places (OfScript a q) k))
         (has_either (record { name = n; definition = OfScript a q }) firm (provided_entries 0 places) h)
 

@@ -7,15 +7,17 @@ use Rattle.wild_plan_spec.specs.declared.place.Where.{Where}
 use Rattle.wild_plan_spec.specs.Places.{Place, Wait, Task, Assign, Provide}
 use Rattle.wild_plan_spec.specs.Points.{task_point}
 use Rattle.wild_plan_spec.specs.Symbols.{is_at}
+use Rattle.wild_eval.specs.Addresses.{known_of}
 use Rattle.wild_plan.specs.declared.ends.End.{End}
+use Rattle.wild_plan.specs.Ground.{shown_ground}
 
 -- what the script and its table say
 abbrev pub scope : End → Scope
-scope end = end.evaluation.scope
+scope end = (shown_ground end.ground.now).scope
 
 -- what is known of the layout
 abbrev pub known : End → Known
-known end = end.evaluation.known
+known end = known_of end.addresses.now
 
 -- ---- definitions
 

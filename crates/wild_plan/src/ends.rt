@@ -5,95 +5,124 @@ ghost use Rattle.wild_fates.specs.Shown.{shown_place, shown_places, shown_task};
 ghost use Rattle.wild_plan_spec.specs.Conditions as spec;
 ghost use Rattle.wild_plan_spec.specs.End.{final_symbols};
 ghost use Rattle.wild_plan_spec.specs.Points.{task_point};
+ghost use Rattle.wild_eval.specs.Evaluated.{IsMemoOf};
 ghost use Rattle.wild_plan.specs.End.{AreDefined, known, scope};
 ghost use Rattle.wild_value_spec.specs.Answer.{Returns};
 ghost use Rattle.wild_value_spec.specs.Value.{full_value};
 
+use crate::ground::Ground;
 use crate::points::{condition_point, task_point};
 use sqlite_items::Items;
-use std::alloc::Global;
 use wild_base::Fault;
-use wild_eval::Evaluation;
+use wild_eval::{Addresses, Evaluator, Memo};
 use wild_fates::{Place, Task};
 use wild_plan_spec::{PlacedSymbol, Where};
 use wild_script_tree::{AssertCommand, Expression};
 
-/// What evaluates all that is left, once all places are laid out.
+/// What all is evaluated over, once all places are laid out.
 #[derive(Drop)]
 pub struct End<'a> {
-    pub alloc: Global,
-    pub evaluation: Evaluation<'a>,
+    pub ground: &'a Ground<'a>,
+    pub addresses: &'a Addresses,
 }
 
 impl End<'_> {
+    /// What evaluates the expressions of a place.
+    pub fn evaluator(&self, place: usize) -> Evaluator<'_>
+        ensures scope { result.scope.now ≡ self.now.ground.now.scope }
+        ensures addresses { result.addresses.now ≡ self.now.addresses.now }
+        ensures statement { result.statement ≡ place }
+    {
+        Evaluator {
+            alloc: self.ground.alloc,
+            scope: &self.ground.scope,
+            addresses: self.addresses,
+            statement: place,
+        }
+    }
+
     /// The value of an expression of a task that stands here, over what is known.
     pub fn full(
-        &mut self,
+        &self,
+        memo: &mut Memo,
         place: usize,
         stand: Where,
         expression: &Expression,
     ) -> Result<u64, Fault>
-        ensures same { self.new ≡ self.old }
-        ensures value { Returns result (full_value (scope self.old) place (known self.old) [] expression.now (task_point place stand expression.now)) }
+        requires memo { IsMemoOf (scope self.now) (known self.now) memo.old }
+        ensures memo { IsMemoOf (scope self.now) (known self.now) memo.new }
+        ensures value { Returns result (full_value (scope self.now) place (known self.now) [] expression.now (task_point place stand expression.now)) }
     {
         let point = task_point(place, stand, expression);
-        self.evaluation.full(place, expression, point)
+        self.evaluator(place).full(memo, expression, point)
     }
 
     fn assert_holds(
-        &mut self,
+        &self,
+        memo: &mut Memo,
         place: usize,
         stand: Where,
         command: &AssertCommand,
     ) -> Result<(), Fault>
-        ensures same { self.new ≡ self.old }
-        ensures holds { Returns result (spec.assert_holds (scope self.old) (known self.old) place stand command.now) }
+        requires memo { IsMemoOf (scope self.now) (known self.now) memo.old }
+        ensures memo { IsMemoOf (scope self.now) (known self.now) memo.new }
+        ensures holds { Returns result (spec.assert_holds (scope self.now) (known self.now) place stand command.now) }
     {
         let point = condition_point(place, stand);
-        self.evaluation.check(place, command, point)?;
+        self.evaluator(place).check(memo, command, point)?;
         Ok(())
     }
 
     #[tactic(auto, unfolding(wild_plan_spec::specs::Conditions::task_holds))]
-    fn task_holds(&mut self, place: usize, stand: Where, task: Task<'_>) -> Result<(), Fault>
-        ensures same { self.new ≡ self.old }
-        ensures holds { Returns result (spec.task_holds (scope self.old) (known self.old) place stand (shown_task task.entry)) }
+    fn task_holds(
+        &self,
+        memo: &mut Memo,
+        place: usize,
+        stand: Where,
+        task: Task<'_>,
+    ) -> Result<(), Fault>
+        requires memo { IsMemoOf (scope self.now) (known self.now) memo.old }
+        ensures memo { IsMemoOf (scope self.now) (known self.now) memo.new }
+        ensures holds { Returns result (spec.task_holds (scope self.now) (known self.now) place stand (shown_task task.entry)) }
     {
         match task {
-            Task::Check(command) => self.assert_holds(place, stand, command),
+            Task::Check(command) => self.assert_holds(memo, place, stand, command),
             Task::Assign(_, _) | Task::Provide(_) | Task::Locate(_) => Ok(()),
         }
     }
 
     #[tactic(auto, unfolding(wild_plan_spec::specs::Conditions::place_holds))]
-    fn place_holds(&mut self, number: usize, place: &Place<'_>) -> Result<(), Fault>
-        ensures same { self.new ≡ self.old }
-        ensures holds { Returns result (spec.place_holds (scope self.old) (known self.old) number (shown_place place.now)) }
+    fn place_holds(&self, memo: &mut Memo, number: usize, place: &Place<'_>) -> Result<(), Fault>
+        requires memo { IsMemoOf (scope self.now) (known self.now) memo.old }
+        ensures memo { IsMemoOf (scope self.now) (known self.now) memo.new }
+        ensures holds { Returns result (spec.place_holds (scope self.now) (known self.now) number (shown_place place.now)) }
     {
         match *place {
-            Place::Wait(stand, task) => self.task_holds(number, stand, task),
+            Place::Wait(stand, task) => self.task_holds(memo, number, stand, task),
             _ => Ok(()),
         }
     }
 
     // The conditions of the places, in text order.
-    fn conditions(&mut self, places: &[Place<'_>]) -> Result<(), Fault>
-        ensures same { self.new ≡ self.old }
-        ensures hold { Returns result (spec.conditions (scope self.old) (known self.old) 0 (shown_places places.now)) }
+    fn conditions(&self, memo: &mut Memo, places: &[Place<'_>]) -> Result<(), Fault>
+        requires memo { IsMemoOf (scope self.now) (known self.now) memo.old }
+        ensures memo { IsMemoOf (scope self.now) (known self.now) memo.new }
+        ensures hold { Returns result (spec.conditions (scope self.now) (known self.now) 0 (shown_places places.now)) }
     {
         for (number, place) in places.iter().enumerate() {
-            self.place_holds(number, place)?;
+            self.place_holds(memo, number, place)?;
         }
         Ok(())
     }
 
     /// The symbols of the places, where all have values and all conditions hold; or the first fault.
-    pub fn final_symbols(&mut self, places: &[Place<'_>]) -> Result<Items<PlacedSymbol>, Fault>
-        requires { AreDefined (scope self.old) (shown_places places.now) }
-        ensures { Returns result (final_symbols (scope self.old) (known self.old) (shown_places places.now)) }
+    pub fn final_symbols(&self, places: &[Place<'_>]) -> Result<Items<PlacedSymbol>, Fault>
+        requires { AreDefined (scope self.now) (shown_places places.now) }
+        ensures { Returns result (final_symbols (scope self.now) (known self.now) (shown_places places.now)) }
     {
-        let found = self.symbols(places)?;
-        self.conditions(places)?;
+        let mut memo = self.evaluator(0).memo();
+        let found = self.symbols(&mut memo, places)?;
+        self.conditions(&mut memo, places)?;
         Ok(found)
     }
 }

@@ -21,7 +21,6 @@ use crate::walk::{Walk, lay_out};
 use sqlite_items::Items;
 use std::alloc::Global;
 use wild_base::{Fault, NoMemory};
-use wild_eval::Evaluation;
 use wild_plan_spec::{InputTable, Kept, PlacedSymbol, PlanOptions};
 use wild_script::LinkerScript;
 
@@ -60,9 +59,9 @@ fn script_lists(alloc: Global, case: &Case<'_>) -> Result<Lists, Fault>
     let ground = ground_on(alloc, case, &definitions, &basis);
     let places = definitions.script_fates.places.as_slice();
     let walk = lay_out(&ground, places)?;
-    let mut end = End {
-        alloc,
-        evaluation: Evaluation::new(alloc, &ground.scope, &walk.addresses),
+    let end = End {
+        ground: &ground,
+        addresses: &walk.addresses,
     };
     let found = end.final_symbols(places)?;
     let fates = definitions.script_fates.fates.as_slice();

@@ -157,7 +157,7 @@ impl Walk {
             addresses: &self.addresses,
             statement: place,
         };
-        evaluator.full(expression, point)
+        evaluator.full(&mut evaluator.memo(), expression, point)
     }
 
     // Where the next section of this region goes, or of none.
