@@ -1,6 +1,9 @@
 //! What is evaluated once all places are laid out: the symbols of the script, then its ASSERTs.
 
-ghost use Rattle.std.specs.Prelude.{◌≡◌, []};
+ghost use Rattle.std.specs.Prelude.{◌≡◌, [], ◌∷◌, Some};
+ghost use Rattle.wild_expression_tree.specs.declared.tree.Expression as tree;
+ghost use Rattle.wild_value_spec.specs.declared.value.Point as point;
+ghost use Rattle.wild_value_spec.specs.Scope.{OfScript, definition_of};
 ghost use Rattle.wild_fates.specs.Shown.{shown_place, shown_places, shown_task};
 ghost use Rattle.wild_plan_spec.specs.Conditions as spec;
 ghost use Rattle.wild_plan_spec.specs.End.{final_symbols};
@@ -13,7 +16,7 @@ ghost use Rattle.wild_value_spec.specs.Value.{full_value};
 use crate::ground::Ground;
 use crate::points::{condition_point, task_point};
 use sqlite_items::Items;
-use wild_base::Fault;
+use wild_base::{Fault, Name};
 use wild_eval::{Addresses, Evaluator, Memo};
 use wild_fates::{Place, Task};
 use wild_plan_spec::{PlacedSymbol, Where};
@@ -27,20 +30,6 @@ pub struct End<'a> {
 }
 
 impl End<'_> {
-    /// What evaluates the expressions of a place.
-    pub fn evaluator(&self, place: usize) -> Evaluator<'_>
-        ensures scope { result.scope.now ≡ self.now.ground.now.scope }
-        ensures addresses { result.addresses.now ≡ self.now.addresses.now }
-        ensures statement { result.statement ≡ place }
-    {
-        Evaluator {
-            alloc: self.ground.alloc,
-            scope: &self.ground.scope,
-            addresses: self.addresses,
-            statement: place,
-        }
-    }
-
     /// The value of an expression of a task that stands here, over what is known.
     pub fn full(
         &self,
@@ -53,8 +42,29 @@ impl End<'_> {
         ensures memo { IsMemoOf (scope self.now) (known self.now) memo.new }
         ensures value { Returns result (full_value (scope self.now) place (known self.now) [] expression.now (task_point place stand expression.now)) }
     {
-        let point = task_point(place, stand, expression);
-        self.evaluator(place).full(memo, expression, point)
+        let evaluator = Evaluator {
+            alloc: self.ground.alloc,
+            scope: &self.ground.scope,
+            addresses: self.addresses,
+            statement: place,
+        };
+        evaluator.full(memo, expression, task_point(place, stand, expression))
+    }
+
+    /// The number that a symbol stands for, which the script defines by an expression at a point, over what is known.
+    pub fn symbol_number(&self, memo: &mut Memo, place: usize, name: &Name) -> Result<u64, Fault>
+        requires memo { IsMemoOf (scope self.now) (known self.now) memo.old }
+        ensures memo { IsMemoOf (scope self.now) (known self.now) memo.new }
+        ensures value { (e : tree.Expression) (p : point.Point) → definition_of (scope self.now) name.now ≡ Some (OfScript e p)
+            → Returns result (full_value (scope self.now) place (known self.now) (name.now ∷ []) e p) }
+    {
+        let evaluator = Evaluator {
+            alloc: self.ground.alloc,
+            scope: &self.ground.scope,
+            addresses: self.addresses,
+            statement: place,
+        };
+        evaluator.symbol_number(memo, name)
     }
 
     fn assert_holds(
@@ -68,8 +78,13 @@ impl End<'_> {
         ensures memo { IsMemoOf (scope self.now) (known self.now) memo.new }
         ensures holds { Returns result (spec.assert_holds (scope self.now) (known self.now) place stand command.now) }
     {
-        let point = condition_point(place, stand);
-        self.evaluator(place).check(memo, command, point)?;
+        let evaluator = Evaluator {
+            alloc: self.ground.alloc,
+            scope: &self.ground.scope,
+            addresses: self.addresses,
+            statement: place,
+        };
+        evaluator.check(memo, command, condition_point(place, stand))?;
         Ok(())
     }
 
@@ -120,7 +135,13 @@ impl End<'_> {
         requires { AreDefined (scope self.now) (shown_places places.now) }
         ensures { Returns result (final_symbols (scope self.now) (known self.now) (shown_places places.now)) }
     {
-        let mut memo = self.evaluator(0).memo();
+        let evaluator = Evaluator {
+            alloc: self.ground.alloc,
+            scope: &self.ground.scope,
+            addresses: self.addresses,
+            statement: 0,
+        };
+        let mut memo = evaluator.memo();
         let found = self.symbols(&mut memo, places)?;
         self.conditions(&mut memo, places)?;
         Ok(found)

@@ -128,7 +128,7 @@ impl End<'_> {
         ensures memo { IsMemoOf (scope self.now) (known self.now) memo.new }
         ensures symbol { Returns result (spec.listed_symbol (scope self.now) (known self.now) place stand name.now expression.now hidden) }
     {
-        let address = self.evaluator(place).symbol_number(memo, name)?;
+        let address = self.symbol_number(memo, place, name)?;
         Ok(Some(PlacedSymbol {
             name: name.copy(self.ground.alloc)?,
             address,
