@@ -1,5 +1,5 @@
 -- The definitions of entries, by their numbers.
-use Rattle.std.proofs.Common.{◌≡◌, ℕ, zero, suc, ◌<◌, ◌≤◌, List, [], ◌∷◌, Some, None, length, get_or, refl}
+use Rattle.std.proofs.Common.{◌≡◌, ℕ, zero, suc, ◌<◌, ◌≤◌, List, [], ◌∷◌, Some, None, length, get_or, ap, refl}
 use Rattle.std.specs.Prelude.{slice_get}
 use Rattle.std.specs.Option.{option_map}
 use Rattle.std.proofs.lemmas.Option.{slice_get_past, slice_get_read}
@@ -19,3 +19,8 @@ shown_within es i e low same = rw (shown_at es i, slice_get_read es _ i e refl l
 -- no number past its end has one
 pub shown_past : (es : List SymbolEntry) (i : ℕ) → length es ≤ i → slice_get (shown_definitions es) i ≡ None
 shown_past es i past = rw (shown_at es i, slice_get_past es i past) refl
+
+-- each entry has a definition
+pub shown_length : (es : List SymbolEntry) → length (shown_definitions es) ≡ length es
+shown_length [] = refl
+shown_length (e ∷ es) = ap suc (shown_length es)

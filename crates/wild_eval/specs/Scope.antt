@@ -1,4 +1,4 @@
--- What a script, its table and the options say to an expression, and the symbols that are being evaluated.
+-- What a script, its table and the options say to an expression.
 use Rattle.std.specs.Prelude.{List, [], ◌∷◌, Option, Some, None, slice_get}
 use Rattle.std.specs.Option.{unwrap_or}
 use denote.Ref.{Bor}
@@ -7,8 +7,6 @@ use Rattle.wild_eval.specs.declared.definition.Definition.{Definition}
 use Rattle.wild_eval.specs.declared.definition.Definition.TheVariants as kept
 use Rattle.wild_eval.specs.declared.definition.SymbolEntry.{SymbolEntry}
 use Rattle.wild_eval.specs.declared.scope.Scope.{Scope}
-use Rattle.wild_eval.specs.declared.scope.Path.{Path}
-use Rattle.wild_eval.specs.declared.scope.Path.TheVariants.{Start, Through'}
 use Rattle.wild_value_spec.specs.Scope.{Name, OfRow, OfScript, line_of, region_at, asked_start}
 use Rattle.wild_value_spec.specs.Scope as meaning
 
@@ -40,8 +38,3 @@ scope_of scope = record {
   segment_start = λ x. asked_start scope.segment_starts x;
   header_size = scope.header_size;
 }
-
--- the names on a path, the last one first
-abbrev pub path_of : Path → List Name
-path_of Start = []
-path_of (Through' name at rest) = name.now ∷ path_of rest

@@ -1,6 +1,6 @@
 //! Numbers that must stay below 2 ^ 64.
 
-ghost use Rattle.std.specs.Prelude.{◌<◌};
+ghost use Rattle.std.specs.Prelude.{◌≡◌, ◌<◌};
 ghost use Rattle.wild_value_spec.specs.Answer.{Gives};
 ghost use Rattle.wild_value_spec.specs.Value.{multiple_from, sum_of};
 
@@ -21,7 +21,7 @@ pub fn sum(left: u64, right: u64) -> Result<u64, Fault>
 #[tactic(auto, unfolding(wild_value_spec::specs::Value::multiple_from))]
 pub fn multiple_from(value: u64, align: u64) -> Result<u64, Fault>
     requires { 0 < align }
-    ensures { Gives result (multiple_from value align) }
+    ensures { result ≡ multiple_from value align }
 {
     match value.checked_next_multiple_of(align) {
         Some(multiple) => Ok(multiple),

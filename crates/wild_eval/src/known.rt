@@ -2,10 +2,10 @@
 
 ghost use Rattle.std.specs.Prelude.{Ok, codes};
 ghost use Rattle.wild_names.specs.declared.fault.Fault.TheVariants as fault;
-ghost use Rattle.wild_eval.specs.Plain as spec;
+ghost use Rattle.wild_eval.specs.Leaves as spec;
 ghost use Rattle.wild_value_spec.specs.Answer.{Gives, Returns, or_fault};
 
-use crate::plain::Evaluator;
+use crate::evaluator::Evaluator;
 use wild_base::{Fault, Name};
 use wild_value_spec::{DotSource, Point};
 

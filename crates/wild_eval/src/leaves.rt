@@ -1,15 +1,15 @@
 //! What an evaluator does without looking into a part.
 
 ghost use Rattle.std.specs.Prelude.{◌≡◌, ◌<◌, ◌≤◌, ◌+◌, max, IfOk};
-ghost use Rattle.wild_eval.specs.Plain as spec;
+ghost use Rattle.wild_eval.specs.Leaves as spec;
 ghost use Rattle.wild_value_spec.specs.Answer.{Gives};
 ghost use Rattle.wild_value_spec.specs.Marks.{max_height};
 ghost use Rattle.wild_value_spec.specs.Value.{multiple_value};
 
 use crate::arithmetic::{holds, truth};
 use crate::checked::{multiple_from, sum};
+use crate::evaluator::Evaluator;
 use crate::marks::{absolutely, bare, over_both, relatively, unmarked_over};
-use crate::plain::Evaluator;
 use wild_base::Fault;
 use wild_expression_tree::Comparison;
 use wild_value_spec::{Point, Value, Whole};
@@ -94,7 +94,7 @@ impl Evaluator<'_> {
         requires nonzero { 0 < align.number }
         requires align_height { align.height < max_height }
         requires value_height { x.height < max_height }
-        ensures value { Gives result (multiple_value align x) }
+        ensures value { result ≡ multiple_value align x }
         ensures height { IfOk result (λ v. v.height ≡ max align.height x.height + 1) }
     {
         let number = multiple_from(x.number, align.number)?;

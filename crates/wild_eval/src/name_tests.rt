@@ -1,9 +1,14 @@
-use crate::{Addresses, Definition, Evaluator, Path, Scope, SymbolEntry};
+ghost use Rattle.std.specs.Prelude.{◌≡◌, ◌≤◌};
+ghost use Rattle.wild_value_spec.specs.Marks.{max_height};
+
+use crate::{Addresses, Definition, Evaluator, Scope, SymbolEntry};
 use sqlite_items::Boxed;
 use std::alloc::Global;
+use std::marker::Brand;
+use std::sync::ledger::{Blank, Ledger};
 use std::test::Fail;
 use wild_base::alignment::USIZE;
-use wild_base::{Fault, Name, NoMemory};
+use wild_base::{Fault, Name, NoMemory, Steps};
 use wild_expression_tree::{AssertCommand, Expression};
 use wild_numbering::Numbering;
 use wild_value_spec::{DotSource, Point};
@@ -135,6 +140,28 @@ fn number_of(fault: &Fault) -> u32 {
     }
 }
 
+fn height<L: Ledger>(
+    evaluator: &Evaluator<'_>,
+    levels: usize,
+    tree: &Expression,
+    point: Point,
+    blank: Blank,
+) -> Result<u64, Fault>
+    requires levels { levels ≤ max_height }
+    requires name { blank.name ≡ L.name }
+    requires parts { blank.parts ≡ L.parts }
+    requires some { blank.parts ≡ 1 }
+{
+    let mut steps: Steps<L> = Steps::new(blank);
+    let value = evaluator.value(&mut evaluator.memo(), &mut steps, levels, tree, point)?;
+    Ok(value.height as u64)
+}
+
+fn test(evaluator: &Evaluator<'_>, command: &AssertCommand, point: Point) -> Result<u64, Fault> {
+    let value = evaluator.check(&mut evaluator.memo(), command, point)?;
+    Ok(value.number)
+}
+
 fn answer(
     alloc: Global,
     evaluator: &Evaluator<'_>,
@@ -144,18 +171,17 @@ fn answer(
 ) -> Result<Result<u64, u32>, NoMemory> {
     let tree = tree(alloc, sample)?;
     let found = match question {
-        Question::Full => evaluator.full(&Path::Start, tree.get(), point),
+        Question::Full => evaluator.full(&mut evaluator.memo(), tree.get(), point),
         Question::Height(levels) => {
-            let levels = levels.min(1024);
-            match evaluator.value(levels, &Path::Start, tree.get(), point) {
-                Ok(value) => Ok(value.height as u64),
-                Err(fault) => Err(fault),
-            }
+            height::<Brand>(
+                evaluator,
+                levels.min(1024),
+                tree.get(),
+                point,
+                Blank::new(1),
+            )
         }
-        Question::Test => match evaluator.check(&command(alloc, tree)?, point) {
-            Ok(value) => Ok(value.number),
-            Err(fault) => Err(fault),
-        },
+        Question::Test => test(evaluator, &command(alloc, tree)?, point),
     };
     match found {
         Ok(number) => Ok(Ok(number)),

@@ -2,14 +2,14 @@
 
 ghost use Rattle.std.specs.Prelude.{◌≡◌, ◌<◌, ◌≤◌, ◌+◌, IfOk, Err, Some};
 ghost use Rattle.wild_names.specs.declared.fault.Fault.TheVariants as fault;
-ghost use Rattle.wild_eval.specs.Plain as spec;
+ghost use Rattle.wild_eval.specs.Leaves as spec;
 ghost use Rattle.wild_value_spec.specs.Answer.{Gives};
 ghost use Rattle.wild_value_spec.specs.Marks.{max_height};
 
 use crate::arithmetic::truth;
 use crate::checked::sum;
+use crate::evaluator::Evaluator;
 use crate::marks::{absolutely, absolutely_over, relatively_over, unmarked};
-use crate::plain::Evaluator;
 use wild_base::{Fault, Name};
 use wild_expression_tree::{AssertCommand, Question};
 use wild_value_spec::{Point, Value, Whole};
@@ -207,9 +207,18 @@ impl Evaluator<'_> {
         })
     }
 
-    pub(crate) fn symbol_cycle(&self, name: &Name) -> Result<Value, Fault>
+    // The same in place of what is no value.
+    pub(crate) fn undefined<T>(&self, name: &Name) -> Result<T, Fault>
+        ensures { Gives result (Err (fault.UnknownSymbol name.now)) }
+    {
+        Err(Fault::UnknownSymbol {
+            name: self.copied(name)?,
+        })
+    }
+
+    pub(crate) fn symbol_cycle(&self, name: &Name) -> Result<Whole, Fault>
         ensures value { Gives result (Err (fault.SymbolCycle name.now)) }
-        ensures height { IfOk result (λ v. v.height ≤ 1) }
+        ensures height { IfOk result (λ w. w.height ≤ 0) }
     {
         Err(Fault::SymbolCycle {
             name: self.copied(name)?,

@@ -1,10 +1,9 @@
-//! What a script, its table and the options say to an expression, and the symbols that are being evaluated.
+//! What a script, its table and the options say to an expression.
 
 ghost use Rattle.std.specs.Prelude.{◌≡◌, slice_get};
 ghost use Rattle.std.specs.Option.{option_map};
-ghost use Rattle.wild_eval.specs.Scope.{path_of, scope_of, shown_definition, shown_definitions};
+ghost use Rattle.wild_eval.specs.Scope.{scope_of, shown_definition, shown_definitions};
 ghost use Rattle.wild_value_spec.specs.Scope.{asked_start, definition_of, line_of};
-ghost use Rattle.wild_value_spec.specs.Value.{is_on};
 
 use crate::definition::{Definition, SymbolEntry};
 use wild_base::{Alignment, Name, SegmentName};
@@ -35,13 +34,6 @@ pub struct Scope<'a> {
     pub segment_starts: [Option<u64>; 3],
     /// The size of the headers of the output, in bytes.
     pub header_size: u64,
-}
-
-/// The symbols that are being evaluated, the last one first.
-#[derive(Clone, Copy)]
-pub enum Path<'a> {
-    Start,
-    Through(&'a Name, &'a Path<'a>),
 }
 
 impl<'a> Scope<'a> {
@@ -107,8 +99,8 @@ impl<'a> Scope<'a> {
         }
     }
 
-    // The definition of a number.
-    fn definition_at(&self, number: usize) -> Option<Definition<'a>>
+    /// The definition of a number.
+    pub(crate) fn definition_at(&self, number: usize) -> Option<Definition<'a>>
         ensures { option_map shown_definition result ≡ slice_get (shown_definitions self.now.entries.now) number }
     {
         match self.entries.get(number) {
@@ -124,17 +116,5 @@ impl<'a> Scope<'a> {
     {
         let before = &self.script[..position.min(self.script.len())];
         before.iter().filter(|byte| **byte == b'\n').count() as u64 + 1
-    }
-}
-
-impl Path<'_> {
-    /// Whether a symbol is being evaluated.
-    pub(crate) fn has(&self, name: &Name) -> bool
-        ensures { result ≡ is_on name.now (path_of self.now) }
-    {
-        match self {
-            Path::Start => false,
-            Path::Through(first, rest) => first.bytes() == name.bytes() || rest.has(name),
-        }
     }
 }

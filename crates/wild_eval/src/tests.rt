@@ -1,4 +1,4 @@
-use crate::{Addresses, ConstFault, Evaluator, Path, Scope, evaluate_const};
+use crate::{Addresses, ConstFault, Evaluator, Scope, evaluate_const};
 use sqlite_items::Boxed;
 use std::alloc::Global;
 use std::test::Fail;
@@ -231,7 +231,7 @@ fn read(alloc: Global, sample: Sample, point: Point) -> Result<Result<u64, u32>,
         addresses: &addresses,
         statement: 7,
     };
-    match evaluator.full(&Path::Start, tree.get(), point) {
+    match evaluator.full(&mut evaluator.memo(), tree.get(), point) {
         Ok(number) => Ok(Ok(number)),
         Err(fault) => Ok(Err(number_of(&fault))),
     }

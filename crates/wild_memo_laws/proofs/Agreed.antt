@@ -28,7 +28,7 @@ use Rattle.wild_memo_laws.specs.Memo as m
 use Rattle.wild_memo_laws.specs.Memo.{settled, settled_by}
 use Rattle.wild_memo_laws.specs.Nodes.{nodes, part_nodes}
 use Rattle.wild_memo_laws.specs.Running.{State, Ran, give, ◌>>>◌, ticked, slot_at, mark}
-use Rattle.wild_memo_laws.specs.Sound.{whole, IsIndexed, IsDefined, IsApart, IsApartBut, IsWorth, IsSound, definition_nodes, unseen_nodes, unseen, Agrees}
+use Rattle.wild_memo_laws.specs.Sound.{whole, IsIndexed, IsDefined, IsApart, IsApartBut, IsWorth, IsSound, definition_nodes, unseen_nodes, unseen, Agrees, GivesUp, Stopped}
 use Rattle.wild_memo_laws.proofs.Nodes.{parts_have_fewer_nodes}
 use Rattle.wild_memo_laws.proofs.Slots.{on_itself, on_rest, unseen-set, within, marked}
 use Rattle.wild_memo_laws.proofs.Steps.{apart, pure, weaken, on, choose, counted}
@@ -47,7 +47,7 @@ chosen_by true a c = omega arith
 chosen_by false a c = omega arith
 
 -- the nodes of the chosen side
-chosen_nodes : (n : ℕ) (a b : Expression) → nodes (v.chosen_side n a b) + 0 ≤ nodes a + (nodes b + 0)
+pub chosen_nodes : (n : ℕ) (a b : Expression) → nodes (v.chosen_side n a b) + 0 ≤ nodes a + (nodes b + 0)
 unfolding v.chosen_side
 chosen_nodes n a b = chosen_by (n == 0) a b
 
@@ -127,7 +127,7 @@ module _ (scope : Scope) (indexed : IsIndexed scope) (known : Known) (statement 
     keeping = m.value scope statement known levels
 
     module _ (h : (path : List Name) (e : Expression) (p : Point) (s : State) → Sounds path s.slots → Agree path (nodes e) s (λ other. plain other e p) (keeping e p s)) where
-      found : (path : List Name) (name : Name) (d : Definition) (s : State) → Sounds path s.slots → Agree path (definition_nodes d) s (λ other. whole scope statement known levels other name d) (m.found scope statement known keeping levels name d s)
+      pub found : (path : List Name) (name : Name) (d : Definition) (s : State) → Sounds path s.slots → Agree path (definition_nodes d) s (λ other. whole scope statement known levels other name d) (m.found scope statement known keeping levels name d s)
       found path name (OfRow row offset section_number) s sound = idle 0 (v.row_whole scope statement known name row offset) sound
       found path name (OfScript e q) s sound = at_most (nodes e + 0) (nodes e) (omega arith) (next (nodes e) 0 (h path e q s sound) (λ x t sound. idle 0 (v.value_whole scope statement known q x) sound))
 
@@ -197,6 +197,15 @@ module _ (scope : Scope) (indexed : IsIndexed scope) (known : Known) (statement 
               rises = k.rises;
               spends = omega (arith, entered_spent, k.spends);
             }
+
+          -- where it is given up, it is unseen again
+          pub given_up_so : (t : State) → GivesUp scope known (name ∷ path) (definition_nodes d) entered t → GivesUp scope known path 0 s (mark i Unseen t)
+          given_up_so t k = record {
+            sound = comes_out scope indexed known path t.slots name i d defined k.sound Unseen off_path (λ h. cc) (λ u h. absurd (cc));
+            grows = λ y j b u e h. stays scope indexed known path t.slots name i d defined k.sound Unseen y j b u e (k.grows y j b u e (kept_then scope indexed known path s.slots name i d defined sound new y j b u e h));
+            rises = k.rises;
+            most = omega (arith, entered_spent, k.most);
+          }
 
           settled_so : (t : State) (r : Result Whole Fault) → Agree (name ∷ path) (definition_nodes d) entered (λ other. whole scope statement known levels other name d) (give r t) → Agree path 0 s (plain_whole scope known statement levels name d) (settled_by i r t)
           settled_so t (Ok w) k = found_so t w k
@@ -337,6 +346,10 @@ module _ (scope : Scope) (indexed : IsIndexed scope) (known : Known) (statement 
   agreed zero fits path e p s sound = idle (nodes e) (Err (DeepValue statement)) sound
   agreed (suc levels) fits path e p s sound = at_most (suc (part_nodes (shape e))) (nodes e) (parts_have_fewer_nodes e) (counted scope known path (part_nodes (shape e)) s _ _ (node levels (omega arith) (agreed levels (omega arith)) path p (shape e) (ticked s) sound))
 
+  -- what is behind a node that was counted
+  pub agreed_node : (levels : ℕ) → suc levels ≤ max_height → (path : List Name) (e : Expression) (p : Point) (s : State) → Sounds path s.slots → Agree path (part_nodes (shape e)) s (λ other. v.node scope statement known (v.value scope statement known levels) other p (shape e)) (m.node scope statement known (m.value scope statement known levels) levels p (shape e) s)
+  agreed_node levels fits path e p s sound = node levels (omega arith) (agreed levels (omega arith)) path p (shape e) s sound
+
   -- at least once, where a level is left
   pub counted_once : (levels : ℕ) → suc levels ≤ max_height → (path : List Name) (e : Expression) (p : Point) (s : State) → Sounds path s.slots → s.ticks < (m.value scope statement known (suc levels) e p s).state.ticks
   unfolding v.value m.value
@@ -353,3 +366,13 @@ module _ (scope : Scope) (indexed : IsIndexed scope) (known : Known) (statement 
 
   pub agreed_assert : (levels : ℕ) → levels ≤ max_height → (path : List Name) (c : Expression) (message : Name) (at : ℕ) (p : Point) (s : State) → Sounds path s.slots → Agree path (nodes c + 0) s (λ other. v.assert_value scope statement known (v.value scope statement known levels) other c message at p) (m.assert_value scope statement known (m.value scope statement known levels) levels c message at p s)
   agreed_assert levels fits path c message at p s sound = assert_value levels fits (agreed levels fits) path p c message at s sound
+
+  -- what a definition is worth, found anew
+  pub agreed_found : (levels : ℕ) → levels ≤ max_height → (path : List Name) (name : Name) (d : Definition) (s : State) → Sounds path s.slots → Agree path (definition_nodes d) s (λ other. whole scope statement known levels other name d) (m.found scope statement known (m.value scope statement known levels) levels name d s)
+  agreed_found levels fits path name d s sound = found levels fits (agreed levels fits) path name d s sound
+
+  -- work on a definition that is given up
+  pub given_up : (name : Name) (i : ℕ) (d : Definition) (s t : State) → IsDefined scope name i d → slot_at i s.slots ≡ Unseen → Stopped scope known (definition_nodes d) (mark i InWork s) t → Stopped scope known 0 s (mark i Unseen t)
+  given_up name i d s t defined new k path sound =
+      let l : GivesUp scope known (name ∷ path) (definition_nodes d) (mark i InWork s) t = k (name ∷ path) (goes_in scope indexed known path s.slots name i d defined sound new) in
+      given_up_so zero (omega arith) (agreed zero (omega arith)) path name i d s defined sound new t l

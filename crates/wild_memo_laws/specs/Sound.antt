@@ -107,3 +107,18 @@ module _ (scope : Scope) where
     pub matches : Matches ran.state.slots path plain ran.answer
     pub rises : s.ticks ≤ ran.state.ticks
     pub spends : Spends cost s ran.state ran.answer
+
+-- ---- work that is given up
+
+module _ (scope : Scope) (known : Known) where
+  -- work along a path, on what has so many nodes, was given up: what is kept is right, what was kept is, and what is
+  -- counted is bounded
+  pub record GivesUp (path : List Name) (cost : ℕ) (s t : State) : Type 0 where
+    pub sound : IsSound scope known path t.slots
+    pub grows : Grows scope s.slots t.slots
+    pub rises : s.ticks ≤ t.ticks
+    pub most : t.ticks ≤ s.ticks + unseen scope.definitions s.slots + cost
+
+  -- the same along each path along which what was kept was right
+  abbrev pub Stopped : ℕ → State → State → Type 0
+  Stopped cost s t = (path : List Name) → IsSound scope known path s.slots → GivesUp path cost s t

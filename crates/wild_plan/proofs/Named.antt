@@ -1,10 +1,10 @@
 -- Symbols of the script, one place after another.
-use Rattle.std.proofs.Common.{◌≡◌, ◌∙◌, ◌+◌, ◌++◌, List, [], ◌∷◌, ℕ, Option, Result, Ok, Err, false, refl, sym, ap}
+use Rattle.std.proofs.Common.{◌≡◌, ◌∙◌, ◌+◌, ◌++◌, List, [], ◌∷◌, ℕ, Option, Result, Ok, Err, false, refl, inl, inr, sym, ap}
 use Rattle.std.specs.Option.{option_to_list}
 use Rattle.std.proofs.lemmas.List.{append_assoc}
 use Rattle.wild_names.specs.declared.fault.Fault.{Fault}
 use Rattle.wild_expression_tree.specs.declared.tree.Expression.{Expression}
-use Rattle.wild_value_spec.specs.Answer.{◌>>=◌}
+use Rattle.wild_value_spec.specs.Answer.{◌>>=◌, Fails}
 use Rattle.wild_value_spec.specs.Known.{Known}
 use Rattle.wild_value_spec.specs.Scope.{Name, Scope}
 use Rattle.wild_plan_spec.specs.declared.placed.PlacedSymbol.{PlacedSymbol}
@@ -34,3 +34,8 @@ pub symbols_more : (scope : Scope) (known : Known) (i : ℕ) (found : List Place
 symbols_more scope known i found p ps s next there c =
     let here : symbols scope known i (p ∷ ps) ≡ symbols scope known (i + 1) ps >>= (λ rest. Ok (option_to_list s ++ rest)) = rw there refl in
     ap (λ (xs : List PlacedSymbol). found_then xs (symbols scope known (i + 1) ps)) c ∙ found_then_more found (option_to_list s) (symbols scope known (i + 1) ps) ∙ ap (found_then found) (sym here)
+
+-- a fault of a step is that of the steps behind it
+pub fails_on : {A B : Type 0} (f : Fault) (answer : Result A Fault) (next : A → Result B Fault) → Fails f answer → Fails f (answer >>= next)
+fails_on f answer next (inl h) = inl h
+fails_on f answer next (inr h) = inr (ap (λ (r : Result _ Fault). r >>= next) h)

@@ -3,7 +3,7 @@
 ghost use Rattle.std.specs.Prelude.{◌≡◌, ◌⊎◌, ℕ, ◌+◌, nat_lt, [], length, map, IfOk, IfErr, OnOk};
 ghost use Rattle.wild_names.specs.declared.fault.Fault.TheVariants as fault;
 ghost use Rattle.wild_eval.specs.Addresses.{known_of};
-ghost use Rattle.wild_value_spec.specs.Answer.{Gives, Returns};
+ghost use Rattle.wild_value_spec.specs.Answer.{Returns};
 ghost use Rattle.wild_value_spec.specs.Value.{full_value};
 ghost use Rattle.wild_plan_spec.specs.Chunks.{largest};
 ghost use Rattle.wild_plan_spec.specs.Names.{or_empty};
@@ -21,7 +21,7 @@ use crate::taken::Taken;
 use sqlite_items::Items;
 use std::alloc::{AllocError, Global};
 use wild_base::{Alignment, Fault, Name, NoMemory, alignment};
-use wild_eval::{Addresses, Evaluator, Path, sum};
+use wild_eval::{Addresses, Evaluator, sum};
 use wild_fates::Place;
 use wild_plan_spec::{Chunk, ChunkRow, PlacedLocation, Where};
 use wild_script_tree::Expression;
@@ -149,7 +149,7 @@ impl Walk {
         expression: &Expression,
         point: Point,
     ) -> Result<u64, Fault>
-        ensures { Gives result (full_value (shown_ground ground.now).scope place (known_of self.now.addresses) [] expression.now point) }
+        ensures { Returns result (full_value (shown_ground ground.now).scope place (known_of self.now.addresses) [] expression.now point) }
     {
         let evaluator = Evaluator {
             alloc: ground.alloc,
@@ -157,7 +157,7 @@ impl Walk {
             addresses: &self.addresses,
             statement: place,
         };
-        evaluator.full(&Path::Start, expression, point)
+        evaluator.full(&mut evaluator.memo(), expression, point)
     }
 
     // Where the next section of this region goes, or of none.

@@ -3,10 +3,12 @@ use Rattle.std.proofs.Common.{length, ap, sym, subst, inl, inr, ⊎_elim, ◌∙
 use Rattle.std.proofs.lemmas.Result.{err_from_is_err_and}
 use Rattle.wild_fates.specs.Shown.{shown_places}
 use Rattle.wild_plan_spec.specs.Fates.{section_names}
+use Rattle.wild_plan_spec.specs.Ground.{Ground}
 use Rattle.wild_walk_laws.specs.Nesting.{Free, Nests}
 use Rattle.wild_walk_laws.proofs.Nesting.{places_nest}
 use Rattle.wild_plan.specs.Case.{shown_case}
 use Rattle.wild_plan.specs.Facts.{shown_all}
+use Rattle.wild_plan.proofs.Counting.{are_defined}
 use Rattle.wild_plan.proofs.Composing.{walk_refused, end_refused, lists_fit}
 use Rattle.wild_plan.proofs.Phases.{all_hold, segments_fail}
 use Rattle.wild_plan.proofs.pipeline.script_lists.Goals as goal
@@ -63,3 +65,11 @@ returns-clause-fits c =
     (c.as_slice-fates.ensures ∙ checked.fates.fates)
     c.ground_on-ground.ensures.facts
     c.in_ok-lists.ensures
+
+pub final_symbols-requires : goal.final_symbols-requires
+final_symbols-requires c =
+    let case = shown_case c.args.case.now in
+    let checked = c.in_ok-definitions.ensures.sound in
+    let places = ap shown_places c.as_slice-places.ensures ∙ checked.fates.places in
+    let scope = ap (λ (g : Ground). g.scope) c.ground_on-ground.ensures.ground in
+    rw (places, scope) (are_defined case checked.symbols)

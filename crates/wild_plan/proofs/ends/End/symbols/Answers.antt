@@ -17,5 +17,5 @@ loop-number-preserved c =
     let item = c.index-places-number.result in
     let left = at_drop_more (λ ps. found_then found (symbols scope known i (shown_places ps))) places i item c.loop-number-test.true in
     let here = ap (λ p. found_then found (symbols scope known i (shown_place p ∷ shown_places (drop (i + 1) places)))) c.index-places-number.is in
-    let moved = symbols_more scope known i found (shown_place item) (shown_places (drop (i + 1) places)) _ _ c.in_ok-symbol.ensures c.in_ok-push_listed.ensures in
-    moved ∙ here ∙ sym left ∙ c.loop-number.invariant
+    let moved = symbols_more scope known i found (shown_place item) (shown_places (drop (i + 1) places)) _ _ c.in_ok-symbol.ensures.symbol c.in_ok-push_listed.ensures in
+    (c.in_ok-symbol.ensures.memo, moved ∙ here ∙ sym left ∙ c.loop-number.invariant.1)

@@ -1,22 +1,15 @@
--- The definitions at an evaluator's scope, statement and addresses.
-use Rattle.std.specs.Prelude.{ℕ, List, ◌∷◌, Option, Result}
+-- What has no part, at an evaluator's scope, statement and addresses.
+use Rattle.std.specs.Prelude.{ℕ, Option, Result}
 use Rattle.wild_names.specs.declared.fault.Fault.{Fault}
-use Rattle.wild_expression_tree.specs.declared.tree.Expression.{Expression}
-use Rattle.wild_expression_tree.specs.Shape.{shape}
-use Rattle.wild_expression_tree.specs.declared.operator.Arithmetic.{Arithmetic}
 use Rattle.wild_expression_tree.specs.declared.operator.Comparison.{Comparison}
-use Rattle.wild_expression_tree.specs.declared.operator.Connective.{Connective}
-use Rattle.wild_expression_tree.specs.declared.operator.Division.{Division}
 use Rattle.wild_expression_tree.specs.declared.operator.Question.{Question}
-use Rattle.wild_expression_tree.specs.declared.operator.Unary.{Unary}
-use Rattle.wild_names.specs.declared.segment_name.SegmentName.{SegmentName}
 use Rattle.wild_value_spec.specs.declared.value.Point.{Point}
 use Rattle.wild_value_spec.specs.declared.value.Value.{Value}
 use Rattle.wild_value_spec.specs.declared.value.Whole.{Whole}
 use Rattle.wild_value_spec.specs.Known.{Known}
-use Rattle.wild_value_spec.specs.Scope.{Name, Definition, Scope}
+use Rattle.wild_value_spec.specs.Scope.{Name, Scope}
 use Rattle.wild_value_spec.specs.Value as spec
-use Rattle.wild_eval.specs.declared.plain.Evaluator.{Evaluator}
+use Rattle.wild_eval.specs.declared.evaluator.Evaluator.{Evaluator}
 use Rattle.wild_eval.specs.Scope.{scope_of}
 use Rattle.wild_eval.specs.Addresses.{known_of}
 
@@ -27,8 +20,6 @@ scope v = scope_of v.scope.now
 -- what is known of the layout
 abbrev pub known : Evaluator → Known
 known v = known_of v.addresses.now
-
--- ---- leaves
 
 -- `.` of a point
 abbrev pub dot_of : Evaluator → Point → Result ℕ Fault
@@ -121,65 +112,3 @@ row_whole v = spec.row_whole (scope v) v.statement (known v)
 -- the number that a value stands for, and its height
 abbrev pub value_whole : Evaluator → Point → Value → Result Whole Fault
 value_whole v = spec.value_whole (scope v) v.statement (known v)
-
--- ---- nodes with parts, where this many levels are left, on a path
-
--- the value of an expression
-abbrev pub value : Evaluator → ℕ → List Name → Expression → Point → Result Value Fault
-value v = spec.value (scope v) v.statement (known v)
-
--- arithmetic of two sides
-abbrev pub arithmetic_value : Evaluator → ℕ → List Name → Arithmetic → Expression → Expression → Point → Result Value Fault
-arithmetic_value v h = spec.arithmetic_value (scope v) v.statement (known v) (value v h)
-
--- a quotient or a remainder
-abbrev pub division_value : Evaluator → ℕ → List Name → Division → Expression → Expression → Point → Result Value Fault
-division_value v h = spec.division_value (scope v) v.statement (known v) (value v h)
-
--- a comparison of two sides
-abbrev pub comparison_value : Evaluator → ℕ → List Name → Comparison → Expression → Expression → Point → Result Value Fault
-comparison_value v h = spec.comparison_value (scope v) v.statement (known v) (value v h)
-
--- `&&` and `||`
-abbrev pub connective_value : Evaluator → ℕ → List Name → Connective → Expression → Expression → Point → Result Value Fault
-connective_value v h = spec.connective_value (scope v) v.statement (known v) (value v h)
-
--- `!`, `~` and `-`
-abbrev pub unary_value : Evaluator → ℕ → List Name → Unary → Expression → Point → Result Value Fault
-unary_value v h = spec.unary_value (scope v) v.statement (known v) (value v h)
-
--- the side that a condition chooses
-abbrev pub ternary_value : Evaluator → ℕ → List Name → Expression → Expression → Expression → Point → Result Value Fault
-ternary_value v h = spec.ternary_value (scope v) v.statement (known v) (value v h)
-
--- what is aligned
-abbrev pub subject : Evaluator → ℕ → List Name → Option Expression → Point → Result Value Fault
-subject v h = spec.subject (scope v) v.statement (known v) (value v h)
-
--- ALIGN
-abbrev pub align_value : Evaluator → ℕ → List Name → Expression → Option Expression → Point → Result Value Fault
-align_value v h = spec.align_value (scope v) v.statement (known v) (value v h)
-
--- SEGMENT_START
-abbrev pub segment_value : Evaluator → ℕ → List Name → SegmentName → Expression → Point → Result Value Fault
-segment_value v h = spec.segment_value (scope v) v.statement (known v) (value v h)
-
--- what a definition is worth, with its name on the path
-abbrev pub whole : Evaluator → ℕ → List Name → Name → Definition → Result Whole Fault
-whole v h path name = spec.whole (scope v) v.statement (known v) (value v h) path (name ∷ path) name
-
--- a symbol by its definition
-abbrev pub symbol_by : Evaluator → ℕ → List Name → Name → Definition → Point → Result Value Fault
-symbol_by v h = spec.symbol_by (scope v) v.statement (known v) (value v h)
-
--- a symbol by its name
-abbrev pub symbol : Evaluator → ℕ → List Name → Name → Point → Result Value Fault
-symbol v h = spec.symbol (scope v) v.statement (known v) (value v h)
-
--- ASSERT
-abbrev pub assert_value : Evaluator → ℕ → List Name → Expression → Name → ℕ → Point → Result Value Fault
-assert_value v h = spec.assert_value (scope v) v.statement (known v) (value v h)
-
--- a node of any kind
-abbrev pub node : Evaluator → ℕ → List Name → Expression → Point → Result Value Fault
-node v h path e p = spec.node (scope v) v.statement (known v) (value v h) path p (shape e)
