@@ -29,4 +29,6 @@ mod region_tests;
 #[cfg(test)]
 mod section_tests;
 #[cfg(test)]
+mod speed_tests;
+#[cfg(test)]
 mod tests;

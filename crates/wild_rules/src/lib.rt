@@ -26,4 +26,6 @@ pub use unnamed::unnamed_section_output;
 #[cfg(test)]
 mod platform_tests;
 #[cfg(test)]
+mod speed_tests;
+#[cfg(test)]
 mod tests;

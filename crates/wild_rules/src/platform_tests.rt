@@ -13,7 +13,7 @@ use wild_base::{
 
 /// Two single parts, and six regular sections. `.eh_frame` is `.note.gnu.property` too, and no one has `.tbss`.
 #[derive(Debug, Clone, Copy)]
-struct Six;
+pub(crate) struct Six;
 
 impl PlatformIds for Six {
     ghost use Rattle.std.proofs.Common.{refl, lit≤, lit<};
@@ -100,7 +100,7 @@ impl PlatformIds for Six {
 
 /// What the header of a section in memory with bits, or of zeros, tells.
 #[derive(Debug, Clone, Copy)]
-struct Header {
+pub(crate) struct Header {
     exclude: bool,
     null: bool,
     memory: bool,
@@ -260,7 +260,7 @@ impl Args for Asked {
     }
 }
 
-fn section(id: u32) -> SectionRuleOutcome {
+pub(crate) fn section(id: u32) -> SectionRuleOutcome {
     SectionRuleOutcome::Section(SectionOutputInfo::regular(OutputSectionId(id)))
 }
 
@@ -278,7 +278,7 @@ const BITS: Header = Header {
 };
 
 /// The same, but only read.
-const READ: Header = Header {
+pub(crate) const READ: Header = Header {
     write: false,
     ..BITS
 };
