@@ -37,11 +37,7 @@ fn name_of(number: u32) -> [u8; 4] {
 fn many_rules(alloc: Global) -> Result<SectionRules, NoMemory> {
     let mut rules = Vec::new(alloc);
     for number in 0..RULES {
-        rules.push(SectionRule::exact(
-            alloc,
-            &name_of(number),
-            section(number),
-        )?)?;
+        rules.push(SectionRule::exact(alloc, &name_of(number), section(number))?)?;
     }
     SectionRules::from_rules(alloc, rules.as_slice())
 }
