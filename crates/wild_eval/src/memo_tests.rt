@@ -1,3 +1,5 @@
+ghost use Rattle.wild_eval.specs.Evaluated.{IsMemo};
+
 use crate::{Addresses, Definition, Evaluator, Memo, Scope, SymbolEntry};
 use sqlite_items::Boxed;
 use std::alloc::Global;
@@ -119,7 +121,10 @@ fn answer(
     evaluator: &Evaluator<'_>,
     memo: &mut Memo,
     asked: Asked,
-) -> Result<Result<u64, u32>, NoMemory> {
+) -> Result<Result<u64, u32>, NoMemory>
+    requires { IsMemo evaluator.now memo.old }
+    ensures { IsMemo evaluator.now memo.new }
+{
     let tree = asked_tree(alloc, asked)?;
     match evaluator.full(memo, tree.get(), OUTSIDE) {
         Ok(number) => Ok(Ok(number)),
