@@ -548,6 +548,30 @@ fn backward_chain_too_long(rt: HostRuntime) -> Result<(), Fail> {
     Ok(())
 }
 
+// `s0 = 1;`, and each next symbol as twice the one before it, up to this number.
+fn doubled_chain(alloc: Global, last: usize) -> Result<String, AllocError> {
+    let mut script = String::from_str(alloc, "s0 = 1;")?;
+    for number in 0..last {
+        let line = format!(in alloc; "s{} = s{number} + s{number};", number + 1)?;
+        script.push_str(line.as_str())?;
+    }
+    Ok(script)
+}
+
+#[test]
+fn symbols_doubled_forty_times(rt: HostRuntime) -> Result<(), Fail> {
+    let alloc = rt.alloc();
+    let script = doubled_chain(alloc, 40)?;
+    let (answer, out, err) = planned(alloc, script.as_bytes(), b"")?;
+    assert_eq!(rt; err.bytes(), b"".as_slice());
+    assert_eq!(rt; answer, 0);
+    assert!(rt;
+        out.bytes()
+            .ends_with(b"symbol s40 0x0000010000000000 - default\n")
+    );
+    Ok(())
+}
+
 const ORPHANS: &[u8] =
     b"section .b 0x0000000000000000 0x0000000000000000 0x0000000000000003 1 A - - -
 section .a 0x0000000000000003 0x0000000000000003 0x0000000000000001 1 A - - -
