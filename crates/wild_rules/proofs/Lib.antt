@@ -3,3 +3,7 @@ pub mod Keys
 pub mod Memory
 pub mod Numbers
 pub mod Utf8
+pub mod Found
+pub mod Runs
+pub mod Lengths
+pub mod Counts

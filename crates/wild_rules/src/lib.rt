@@ -3,9 +3,9 @@
 
 mod fault;
 mod index;
-mod key;
 mod laws;
 mod layout_rules;
+mod literal;
 mod matcher;
 mod merging;
 mod outcome;

@@ -1,8 +1,8 @@
 //! Rules: how they are made, and which sections they take.
 
 ghost use Rattle.std.specs.Prelude.{◌≡◌, ◌⊎◌, ◌+◌, IfOk, Result};
-ghost use Rattle.std.specs.Option.{option_copied};
-ghost use Rattle.wild_rules.specs.Index.{names_key};
+ghost use Rattle.std.specs.Option.{option_copied, option_map};
+ghost use Rattle.wild_rules.specs.Index.{literal};
 ghost use Rattle.wild_rules.specs.Taking as taking;
 ghost use Rattle.wild_rules.specs.Making as making;
 ghost use Rattle.wild_rules.specs.Outcomes as outcomes;
@@ -10,11 +10,11 @@ ghost use Rattle.wild_rules.specs.declared.fault.RuleFault.TheVariants as fault;
 ghost use Rattle.wild_rules.specs.declared.outcome.SectionRuleOutcome.TheVariants as sends;
 
 use crate::fault::RuleFault;
-use crate::key::{self, Key};
+use crate::literal::literal_of;
 use crate::matcher::{SectionNameMatcher, copy_file, takes_file};
 use crate::outcome::{SectionOutputInfo, SectionRuleOutcome};
 use crate::reading::{files_of, names_of};
-use std::alloc::Global;
+use std::alloc::{AllocError, Global};
 use std::marker::Model;
 use std::sync::ledger::Ledger;
 use wild_base::{Name, NoMemory, OutputSectionId, Steps};
@@ -191,10 +191,10 @@ impl SectionRule {
         self.matches(section_name, file_name)
     }
 
-    /// The first four bytes of the names that it takes, where they have these in common.
-    pub(crate) fn key(&self) -> Option<Key>
-        ensures { result ≡ names_key self.now.matcher }
+    /// The bytes with which all names begin that it takes, where the index has them.
+    pub(crate) fn literal(&self, alloc: Global) -> Result<Option<Vec<u8>>, AllocError>
+        ensures { IfOk result (λ found. option_map (λ bytes. bytes.items) found ≡ literal self.now.matcher) }
     {
-        key::names_key(&self.matcher)
+        literal_of(alloc, &self.matcher)
     }
 }

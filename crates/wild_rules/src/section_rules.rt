@@ -1,15 +1,16 @@
 //! Lists of rules, and which of them counts.
 
 ghost use Rattle.std.specs.Prelude.{◌≡◌, ◌≤◌, ◌<◌, ◌+◌, if◌then◌else◌, length, slice_get, Some, IfOk};
-ghost use Rattle.std.specs.List.{find};
+ghost use Rattle.std.specs.List.{position_from};
 ghost use Rattle.std.specs.Option.{option_copied};
-ghost use Rattle.wild_rules.specs.Index.{AreCandidates, candidates, candidates_by_key, name_key};
+ghost use Rattle.wild_rules.specs.Index as index;
+ghost use Rattle.wild_rules.specs.Index.{candidates, candidates_by_key, name_key};
 ghost use Rattle.wild_rules.specs.Lookup as spec;
 ghost use Rattle.wild_rules.specs.Taking.{takes};
 ghost use Rattle.wild_rules.specs.Unnamed.{unnamed_outcome, homes, told};
 ghost use Rattle.wild_rules.specs.declared.outcome.SectionRuleOutcome.TheVariants as sends;
 
-use crate::index::{Candidates, Index};
+use crate::index::Index;
 use crate::outcome::SectionRuleOutcome;
 use crate::rule::SectionRule;
 use crate::unnamed::unnamed_section_output;
@@ -49,7 +50,7 @@ impl SectionRules {
         for (number, rule) in rules.iter().enumerate() {
             let copy = rule.copy(alloc)?;
             copies.push(copy)?;
-            index.push(alloc, rule.key(), number)?;
+            index.push(alloc, rule.literal(alloc)?, number)?;
         }
         Ok(SectionRules {
             rules: copies,
@@ -70,14 +71,32 @@ impl SectionRules {
         if section_name.is_empty() {
             return None;
         }
-        let candidates = self.index.candidates(section_name);
-        first_match(
-            self.rules.as_slice(),
-            candidates,
-            section_name,
-            file_name,
-            steps,
-        )
+        let number = self.first_number(section_name, file_name, steps)?;
+        self.rules.get(number)
+    }
+
+    // The number of the first rule that matches. Those of the name are tried first, then those of its beginnings, then those
+    // without a literal.
+    fn first_number<L: Ledger>(
+        &self,
+        section_name: &[u8],
+        file_name: Option<&[u8]>,
+        steps: &mut Steps<L>,
+    ) -> Option<usize>
+        ensures number { result ≡ position_from (takes section_name.now (option_copied file_name.entry)) 0 self.now }
+        ensures steps { steps.new ≤ steps.old + candidates_by_key self.now (name_key section_name.now) }
+    {
+        let rules = self.rules.as_slice();
+        let named = self.index.numbers_at(section_name);
+        let mut best = lowest(rules, named, None, section_name, file_name, steps);
+        for length in self.index.lengths() {
+            if *length < section_name.len() {
+                let begun = self.index.numbers_at(&section_name[..*length]);
+                best = lowest(rules, begun, best, section_name, file_name, steps);
+            }
+        }
+        let short = self.index.short();
+        lowest(rules, short, best, section_name, file_name, steps)
     }
 
     // The same, with steps of a ledger of its own, which nobody reads.
@@ -158,33 +177,53 @@ fn sent<P: PlatformIds, H: SectionHeader>(
     }
 }
 
-// The rule of this number.
-fn rule_at(rules: &[SectionRule], number: usize) -> &SectionRule
-    requires { number < length rules.now }
-    ensures { slice_get rules.now number ≡ Some result.now }
+// Whether a number comes before another one, if there is one.
+fn is_before(number: usize, best: Option<usize>) -> bool
+    ensures { result ≡ index.is_before number best }
 {
-    &rules[number]
+    match best {
+        Some(best) => number < best,
+        None => true,
+    }
 }
 
-// The first rule that matches, of those that may take the section.
-fn first_match<'r, L: Ledger>(
-    rules: &'r [SectionRule],
-    candidates: Candidates<'_>,
+// The lowest of a number that was found, and of these numbers whose rules match. They rise, and are tried as long as they are
+// lower.
+fn lowest<L: Ledger>(
+    rules: &[SectionRule],
+    numbers: &[usize],
+    best: Option<usize>,
     section_name: &[u8],
     file_name: Option<&[u8]>,
     steps: &mut Steps<L>,
-) -> Option<&'r SectionRule>
-    requires { AreCandidates rules.now section_name.now candidates.keyed.now candidates.short.now }
-    ensures rule { option_copied result ≡ find (takes section_name.now (option_copied file_name.entry)) rules.now }
-    ensures steps { steps.new ≤ steps.old + candidates_by_key rules.now (name_key section_name.now) }
+) -> Option<usize>
+    ensures number { result ≡ index.lowest (index.takes_at section_name.now (option_copied file_name.entry) rules.now) numbers.now best }
+    ensures steps { steps.new ≤ steps.old + length numbers.now }
 {
-    let mut left = candidates;
-    while let Some((number, behind)) = left.lowest() {
-        let rule = rule_at(rules, number);
-        if rule.matches_counted(section_name, file_name, steps) {
-            return Some(rule);
+    for number in numbers {
+        if !is_before(*number, best) {
+            return best;
         }
-        left = behind;
+        if matches_at(rules, *number, section_name, file_name, steps) {
+            return Some(*number);
+        }
     }
-    None
+    best
+}
+
+// Whether the rule of this number matches.
+fn matches_at<L: Ledger>(
+    rules: &[SectionRule],
+    number: usize,
+    section_name: &[u8],
+    file_name: Option<&[u8]>,
+    steps: &mut Steps<L>,
+) -> bool
+    ensures matches { result ≡ index.takes_at section_name.now (option_copied file_name.entry) rules.now number }
+    ensures steps { steps.new ≤ steps.old + 1 }
+{
+    match rules.get(number) {
+        Some(rule) => rule.matches_counted(section_name, file_name, steps),
+        None => false,
+    }
 }
