@@ -1,5 +1,5 @@
 -- The number that a symbol stands for, from what its definition is worth.
-use Rattle.std.proofs.Common.{◌≡◌, ℕ, List, [], ◌∷◌, Some, Result, Ok, Err, refl, inl, inr, ap, sym, ◌∙◌}
+use Rattle.std.proofs.Common.{◌≡◌, ℕ, [], ◌∷◌, Some, Result, Ok, Err, refl, inl, inr, ap, sym, ◌∙◌}
 use Rattle.std.specs.Prelude.{slice_get}
 use Rattle.wild_names.specs.declared.fault.Fault.{Fault}
 use Rattle.wild_expression_tree.specs.declared.tree.Expression.{Expression}
@@ -7,7 +7,7 @@ use Rattle.wild_value_spec.specs.declared.value.Point.{Point}
 use Rattle.wild_value_spec.specs.declared.value.Value.{Value}
 use Rattle.wild_value_spec.specs.declared.value.Whole.{Whole}
 use Rattle.wild_value_spec.specs.Answer.{Fails, Gives, Returns, ◌>>=◌}
-use Rattle.wild_value_spec.specs.Scope.{Name, Definition, OfScript, definition_at, definition_of}
+use Rattle.wild_value_spec.specs.Scope.{Name, OfScript, definition_at, definition_of}
 use Rattle.wild_value_spec.specs.Value as plain
 use Rattle.wild_eval.specs.declared.evaluator.Evaluator.{Evaluator}
 use Rattle.wild_eval.specs.Evaluated.{plain_definition}

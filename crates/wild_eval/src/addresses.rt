@@ -1,15 +1,14 @@
 //! The addresses that are known of a layout so far.
 
-ghost use Rattle.std.specs.Prelude.{◌≡◌, ◌==◌, ℕ, Some, None, OnOk, if◌then◌else◌};
+ghost use Rattle.std.specs.Prelude.{◌≡◌, ◌==◌, ◌<◌, ℕ, List, Some, None, OnOk, length, if◌then◌else◌};
 ghost use Rattle.std.specs.Option.{unwrap_or};
 ghost use Rattle.wild_value_spec.specs.Known.{Start, Load, End, Address, Dot, LoadDot, nothing, number_at, or_else, with_number};
 ghost use Rattle.wild_eval.specs.Addresses.{known_at, known_of};
 
 use std::alloc::{AllocError, Global};
-use std::collections::BTreeMap;
 
-// Numbers by the index of a section, a row or a place.
-pub type Numbers = BTreeMap<usize, u64>;
+/// Numbers by the index of a section, a row or a place, as far as they are known. Behind the end none is.
+pub type Numbers = Vec<Option<u64>>;
 
 /// The addresses that are known of a layout so far.
 #[derive(Drop)]
@@ -27,24 +26,40 @@ pub struct Addresses {
 }
 
 fn number(known: &Numbers, index: usize) -> Option<u64>
-    ensures { result ≡ known_at known.now index }
+    ensures { result ≡ known_at known.now.items index }
 {
-    known.get(&index).copied()
+    if index < known.len() {
+        known[index]
+    } else {
+        None
+    }
 }
 
 /// The number at an index, or 0 where none is known.
 fn number_or_zero(known: &Numbers, index: usize) -> u64
-    ensures { result ≡ unwrap_or (known_at known.now index) 0 }
+    ensures { result ≡ unwrap_or (known_at known.now.items index) 0 }
 {
     number(known, index).unwrap_or(0)
 }
 
+/// Makes room for a number, without knowing more.
+fn make_room(known: &mut Numbers, index: usize) -> Result<(), AllocError>
+    ensures room { OnOk result (index < length known.new.items) }
+    ensures same { OnOk result ((i : ℕ) → known_at known.new.items i ≡ known_at known.old.items i) }
+{
+    while known.len() <= index {
+        known.push(None)?;
+    }
+    Ok(())
+}
+
 /// Keeps a number, unless one is known there.
 fn learn(known: &mut Numbers, index: usize, number: u64) -> Result<(), AllocError>
-    ensures { OnOk result ((i : ℕ) → known_at known.new i ≡ or_else (known_at known.old i) (if index == i then Some number else None)) }
+    ensures { OnOk result ((i : ℕ) → known_at known.new.items i ≡ or_else (known_at known.old.items i) (if index == i then Some number else None)) }
 {
-    if !known.contains_key(&index) {
-        known.insert(index, number)?;
+    make_room(known, index)?;
+    if known[index].is_none() {
+        known[index] = Some(number);
     }
     Ok(())
 }
@@ -55,12 +70,12 @@ impl Addresses {
         ensures { known_of result ≡ nothing }
     {
         Addresses {
-            starts: BTreeMap::new(alloc),
-            loads: BTreeMap::new(alloc),
-            ends: BTreeMap::new(alloc),
-            rows: BTreeMap::new(alloc),
-            dots: BTreeMap::new(alloc),
-            load_dots: BTreeMap::new(alloc),
+            starts: Vec::new(alloc),
+            loads: Vec::new(alloc),
+            ends: Vec::new(alloc),
+            rows: Vec::new(alloc),
+            dots: Vec::new(alloc),
+            load_dots: Vec::new(alloc),
         }
     }
 

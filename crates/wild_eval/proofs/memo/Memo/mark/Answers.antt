@@ -1,4 +1,4 @@
-use Rattle.std.proofs.Common.{length, sym, subst, ◌≤◌, arith}
+use Rattle.std.proofs.Common.{sym, arith}
 use Rattle.std.proofs.lemmas.List.{set_past}
 use Rattle.wild_eval.proofs.Slots.{listed_length, listed_marked}
 use Rattle.wild_eval.proofs.memo.Memo.mark.Goals as goal
